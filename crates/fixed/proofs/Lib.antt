@@ -1,0 +1,8 @@
+-- Laws for this crate's proofs and for the crates above. Lin: linear arithmetic on ℤ. Wraps: what wraps. Floors: shifts and
+-- rounding. Fit: what fits a width. Bounds: ranges. Iters: loops.
+pub mod Lin
+pub mod Wraps
+pub mod Floors
+pub mod Fit
+pub mod Bounds
+pub mod Iters

@@ -1,0 +1,27 @@
+-- `fixed::wrap::add32` meets its contract. Assumes nothing.
+use borrow.Author.Needs.{needs}
+use Rattle.fixed.proofs.Fit.{fit, fit-add, read, got32, wide32}
+use Rattle.fixed.proofs.wrap.add32.Statement.{statement}
+use Rattle.fixed.proofs.wrap.add32.Tie as tie
+
+cast-low32 : tie.Need-cast-low32
+cast-low32 c = search (needs, fit)
+
+cast-low32-2 : tie.Need-cast-low32-2
+cast-low32-2 c = search (needs, fit)
+
+add-low32 : tie.Need-add-low32
+add-low32 c = search (needs, fit)
+
+low32-requires : tie.Need-low32-requires
+low32-requires c κs = search needs
+
+returns : tie.Need-returns
+returns c =
+    let f = c .before .fits in
+    let a = wide32 (f .a) in
+    let b = wide32 (f .b) in
+    cc (got32 (c .low32 .result) (c .low32 .ok), read (fit-add _ _ (f .a) (f .b)))
+
+pub add32-spec : {M : Type 1} → statement M
+add32-spec = tie.close (tie.spec cast-low32 cast-low32-2 add-low32 low32-requires returns)
