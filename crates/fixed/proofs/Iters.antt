@@ -1,6 +1,7 @@
 -- Loops: one turn more for the code's loops, and what holds after each turn of one loop or of two.
 use Prim.Native.Nat.{ℕ, zero, suc, _+_, _<_}
 use native.Mathlib.Omega.{arith}
+use native.Mathlib.Nat.{add-zero, add-suc}
 use native.Mathlib.Numerals.{add-one}
 use mathlib.Core.Path.{_≡_, refl, sym, ap, _∙_}
 use mathlib.Core.Bool.{Bool, true, false}
@@ -35,8 +36,8 @@ iter-same f g (suc n) a h =
 
 -- m + n turns are m turns, and then n more that count from m
 pub iter-add : {A : Type 0} (f : ℕ → A → A) (m n : ℕ) (a : A) → iter f (m + n) a ≡ iter (λ j. f (m + j)) n (iter f m a)
-iter-add f m zero a = refl
-iter-add f m (suc n) a = ap (f (m + n)) (iter-add f m n a)
+iter-add f m zero a = ap (λ (k : ℕ). iter f k a) (add-zero m)
+iter-add f m (suc n) a = ap (λ (k : ℕ). iter f k a) (add-suc m n) ∙ ap (f (m + n)) (iter-add f m n a)
 
 -- ---- a branch
 -- what holds of both sides
