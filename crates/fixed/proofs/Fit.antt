@@ -1,12 +1,12 @@
 -- What fits a width, for `search (needs, fit)`, and how a signed local is read back.
-use mathlib.Core.Path.{_≡_}
+use mathlib.Core.Path.{_≡_, sym, subst}
 use Prim.Native.Nat.{ℕ, _+_, _*_, _/_, _^_, _≤_, _<_}
 use native.Mathlib.Omega.{arith}
 use native.Mathlib.Nat.{div-lt-iff-lt-mul, mul-le-mul-right}
 use lib.IntN.{ℤ, pos, negsuc, negℤ, _+ℤ_, _-ℤ_, _*ℤ_}
 use lib.Dec.{T, ltb, lit<}
-use lib.Signed.{shrZ, mag, mag-shr, ltZ}
-use mathlib.Core.Bool.{Bool}
+use lib.Signed.{shrZ, mag, mag-shr, ltZ, ltZ-no, nonNeg, yes-nonNeg}
+use mathlib.Core.Bool.{Bool, false, not}
 use mir.Syntax.{Width, w8, w16, w32, w64}
 use mir.Val.{SFits, toZ, ofZ, hbits}
 use mir.ValLaws.{sfits-le}
@@ -15,6 +15,9 @@ use Rattle.fixed.proofs.Lin.{P, N, add-lin, sub-lin-Z, neg-lin, mul-lin
 use Rattle.fixed.proofs.Wraps.{wrap32-fits, wrap16-fits, wrap8-fits}
 
 -- ---- a narrow number in a wider type
+pub fit8-32 : {z : ℤ} → SFits w8 z → SFits w32 z
+fit8-32 = sfits-widen tt
+
 pub fit16-32 : {z : ℤ} → SFits w16 z → SFits w32 z
 fit16-32 = sfits-widen tt
 
@@ -109,6 +112,10 @@ wide16 f = (toZ-ofZ f, toZ-ofZ (fit16-64 f))
 -- ---- a signed test: what it says of the two numbers
 pub test32 : {a b : ℤ} {t : Bool} → SFits w32 a → SFits w32 b → ltZ (toZ w32 (ofZ w32 a)) (toZ w32 (ofZ w32 b)) ≡ t → ltZ a b ≡ t
 test32 f g e = cc (toZ-ofZ f, toZ-ofZ g)
+
+-- a number that is not below 0
+pub not-below : (z : ℤ) → ltZ z (pos 0) ≡ false → T (nonNeg z)
+not-below z e = yes-nonNeg (ltZ-no {a = z} {b = pos 0} (subst (λ (t : Bool). T (not t)) (sym e) tt))
 
 -- a literal: `lit32 (pos 80) tt`
 pub lit32 : (z : ℤ) → T (ltb (mag z) (2 ^ 31)) → SFits w32 z

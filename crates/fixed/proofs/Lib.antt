@@ -1,8 +1,9 @@
 -- Laws for this crate's proofs and for the crates above. Lin: linear arithmetic on ℤ. Wraps: what wraps. Floors: shifts and
--- rounding. Fit: what fits a width. Bounds: ranges. Iters: loops.
+-- rounding. Fit: what fits a width. Bounds: ranges. Iters: loops. Unique: one outcome.
 pub mod Lin
 pub mod Wraps
 pub mod Floors
 pub mod Fit
 pub mod Bounds
 pub mod Iters
+pub mod Unique

@@ -14,7 +14,7 @@ use Rattle.fixed.specs.Wrap.{modZ, wrapTo, wrap32, wrap16, wrap8}
 use Rattle.fixed.proofs.Lin.{P, N, by-sel, eq-of, add-lin, sub-lin-Z, neg-lin, sfits-lin, sfits-of-lin, shr-lin, mod-lin}
 
 -- two remainders that differ by a multiple are equal
-near : (m r s i j : ℕ) → r < m → s < m → r + m * i ≡ s + m * j → r ≡ s
+pub near : (m r s i j : ℕ) → r < m → s < m → r + m * i ≡ s + m * j → r ≡ s
 near m r s i j h k e =
     sym (mod-eq-of-lt h) ∙ sym (add-mul-mod-self-left r m i) ∙ ap (λ (x : ℕ). x % m) e ∙ add-mul-mod-self-left s m j ∙ mod-eq-of-lt k
 

@@ -3,7 +3,7 @@
 ghost use mathlib.Core.Path.{_≡_};
 ghost use Prim.Native.Nat.{_*_, _%_, _^_};
 ghost use lib.IntN.{_+ℤ_, _-ℤ_, _*ℤ_, negℤ};
-ghost use Rattle.fixed.specs.Wrap.{wrap32, wrap16, wrap8};
+ghost use Rattle.fixed.specs.Wrap.{modZ, wrap32, wrap16, wrap8};
 ghost use Rattle.fixed.specs.Shift.{shr};
 
 // The low 32 bits of x, with their sign: `x as i32`.
@@ -32,6 +32,30 @@ pub fn low8(x: i32) -> i8
     ensures { λ r. ⌜ r ≡ wrap8 x ⌝ }
 {
     ((x << 24) >> 24) as i8
+}
+
+// The 32 bits of x as an unsigned number: `x as u32`.
+pub fn bits32(x: i32) -> u32
+    ensures { λ r. ⌜ r ≡ modZ x (2 ^ 32) ⌝ }
+{
+    if x < 0 {
+        ((x as i64) + 0x1_0000_0000) as u32
+    } else {
+        x as u32
+    }
+}
+
+// A 16-bit word as an i32, and an 8-bit word.
+pub fn wide16(x: i16) -> i32
+    ensures { λ r. ⌜ r ≡ x ⌝ }
+{
+    x as i32
+}
+
+pub fn wide8(x: i8) -> i32
+    ensures { λ r. ⌜ r ≡ x ⌝ }
+{
+    x as i32
 }
 
 pub fn add32(a: i32, b: i32) -> i32

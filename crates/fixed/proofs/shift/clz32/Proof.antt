@@ -1,18 +1,11 @@
 -- `fixed::shift::clz32` meets its contract. Assumes nothing.
-use mathlib.Core.Path.{_≡_, sym, subst}
-use mathlib.Core.Bool.{Bool, not, false, true}
-use lib.IntN.{ℤ, pos}
-use lib.Dec.{T}
-use lib.Signed.{ltZ, ltZ-no, nonNeg, yes-nonNeg}
+use lib.IntN.{pos}
 use mir.Facts.{fits-natAbs}
 use borrow.Author.Needs.{needs}
 use Rattle.fixed.specs.Shift.{clz32}
-use Rattle.fixed.proofs.Fit.{read, test32, lit32}
+use Rattle.fixed.proofs.Fit.{read, test32, lit32, not-below}
 use Rattle.fixed.proofs.shift.clz32.Statement.{statement}
 use Rattle.fixed.proofs.shift.clz32.Tie as tie
-
-not-below : (z : ℤ) → ltZ z (pos 0) ≡ false → T (nonNeg z)
-not-below z e = yes-nonNeg (ltZ-no {a = z} {b = pos 0} (subst (λ (t : Bool). T (not t)) (sym e) tt))
 
 cast-result : tie.Need-cast-result
 cast-result c =

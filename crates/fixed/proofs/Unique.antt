@@ -1,0 +1,139 @@
+-- Each public function's contract leaves one outcome: any two results that it allows are equal. Stated over the contracts as the checker
+-- reads them, so that these theorems cannot drift from the code.
+use mathlib.Core.Path.{_≡_, _∙_, sym}
+use Rattle.fixed.proofs.wrap.low32.Reads as low32
+use Rattle.fixed.proofs.wrap.low16.Reads as low16
+use Rattle.fixed.proofs.wrap.high16.Reads as high16
+use Rattle.fixed.proofs.wrap.low8.Reads as low8
+use Rattle.fixed.proofs.wrap.add32.Reads as add32
+use Rattle.fixed.proofs.wrap.sub32.Reads as sub32
+use Rattle.fixed.proofs.wrap.neg32.Reads as neg32
+use Rattle.fixed.proofs.wrap.mul32.Reads as mul32
+use Rattle.fixed.proofs.wrap.mul_u32.Reads as mul-u32
+use Rattle.fixed.proofs.product.mul16.Reads as mul16
+use Rattle.fixed.proofs.product.smulbb.Reads as smulbb
+use Rattle.fixed.proofs.product.smlabb.Reads as smlabb
+use Rattle.fixed.proofs.product.smulwb.Reads as smulwb
+use Rattle.fixed.proofs.product.smlawb.Reads as smlawb
+use Rattle.fixed.proofs.product.smulwt.Reads as smulwt
+use Rattle.fixed.proofs.product.smlawt.Reads as smlawt
+use Rattle.fixed.proofs.product.smulww.Reads as smulww
+use Rattle.fixed.proofs.product.smlaww.Reads as smlaww
+use Rattle.fixed.proofs.product.smmul.Reads as smmul
+use Rattle.fixed.proofs.shift.shl32.Reads as shl32
+use Rattle.fixed.proofs.shift.shr32.Reads as shr32
+use Rattle.fixed.proofs.shift.rshift_round4.Reads as rshift-round4
+use Rattle.fixed.proofs.shift.rshift_round5.Reads as rshift-round5
+use Rattle.fixed.proofs.shift.rshift_round8.Reads as rshift-round8
+use Rattle.fixed.proofs.shift.rshift_round10.Reads as rshift-round10
+use Rattle.fixed.proofs.shift.rshift_round12.Reads as rshift-round12
+use Rattle.fixed.proofs.shift.rshift_round14.Reads as rshift-round14
+use Rattle.fixed.proofs.shift.or32.Reads as or32
+use Rattle.fixed.proofs.shift.clz32.Reads as clz32
+use Rattle.fixed.proofs.range.clamp32.Reads as clamp32
+use Rattle.fixed.proofs.range.sat16.Reads as sat16
+use Rattle.fixed.proofs.range.min32.Reads as min32
+use Rattle.fixed.proofs.range.abs32.Reads as abs32
+use Rattle.fixed.proofs.generator.rand.Reads as rand
+
+pub low32-unique : (κs a r s e : _) → low32.Post κs a r e → low32.Post κs a s e → r ≡ s
+low32-unique κs a r s e p q = p ∙ sym q
+
+pub low16-unique : (κs a r s e : _) → low16.Post κs a r e → low16.Post κs a s e → r ≡ s
+low16-unique κs a r s e p q = p ∙ sym q
+
+pub high16-unique : (κs a r s e : _) → high16.Post κs a r e → high16.Post κs a s e → r ≡ s
+high16-unique κs a r s e p q = p ∙ sym q
+
+pub low8-unique : (κs a r s e : _) → low8.Post κs a r e → low8.Post κs a s e → r ≡ s
+low8-unique κs a r s e p q = p ∙ sym q
+
+pub add32-unique : (κs a r s e : _) → add32.Post κs a r e → add32.Post κs a s e → r ≡ s
+add32-unique κs a r s e p q = p ∙ sym q
+
+pub sub32-unique : (κs a r s e : _) → sub32.Post κs a r e → sub32.Post κs a s e → r ≡ s
+sub32-unique κs a r s e p q = p ∙ sym q
+
+pub neg32-unique : (κs a r s e : _) → neg32.Post κs a r e → neg32.Post κs a s e → r ≡ s
+neg32-unique κs a r s e p q = p ∙ sym q
+
+pub mul32-unique : (κs a r s e : _) → mul32.Post κs a r e → mul32.Post κs a s e → r ≡ s
+mul32-unique κs a r s e p q = p ∙ sym q
+
+pub mul-u32-unique : (κs a r s e : _) → mul-u32.Post κs a r e → mul-u32.Post κs a s e → r ≡ s
+mul-u32-unique κs a r s e p q = p ∙ sym q
+
+pub mul16-unique : (κs a r s e : _) → mul16.Post κs a r e → mul16.Post κs a s e → r ≡ s
+mul16-unique κs a r s e p q = p ∙ sym q
+
+pub smulbb-unique : (κs a r s e : _) → smulbb.Post κs a r e → smulbb.Post κs a s e → r ≡ s
+smulbb-unique κs a r s e p q = p ∙ sym q
+
+pub smlabb-unique : (κs a r s e : _) → smlabb.Post κs a r e → smlabb.Post κs a s e → r ≡ s
+smlabb-unique κs a r s e p q = p ∙ sym q
+
+pub smulwb-unique : (κs a r s e : _) → smulwb.Post κs a r e → smulwb.Post κs a s e → r ≡ s
+smulwb-unique κs a r s e p q = p ∙ sym q
+
+pub smlawb-unique : (κs a r s e : _) → smlawb.Post κs a r e → smlawb.Post κs a s e → r ≡ s
+smlawb-unique κs a r s e p q = p ∙ sym q
+
+pub smulwt-unique : (κs a r s e : _) → smulwt.Post κs a r e → smulwt.Post κs a s e → r ≡ s
+smulwt-unique κs a r s e p q = p ∙ sym q
+
+pub smlawt-unique : (κs a r s e : _) → smlawt.Post κs a r e → smlawt.Post κs a s e → r ≡ s
+smlawt-unique κs a r s e p q = p ∙ sym q
+
+pub smulww-unique : (κs a r s e : _) → smulww.Post κs a r e → smulww.Post κs a s e → r ≡ s
+smulww-unique κs a r s e p q = p ∙ sym q
+
+pub smlaww-unique : (κs a r s e : _) → smlaww.Post κs a r e → smlaww.Post κs a s e → r ≡ s
+smlaww-unique κs a r s e p q = p ∙ sym q
+
+pub smmul-unique : (κs a r s e : _) → smmul.Post κs a r e → smmul.Post κs a s e → r ≡ s
+smmul-unique κs a r s e p q = p ∙ sym q
+
+pub shl32-unique : (κs a r s e : _) → shl32.Post κs a r e → shl32.Post κs a s e → r ≡ s
+shl32-unique κs a r s e p q = p ∙ sym q
+
+pub shr32-unique : (κs a r s e : _) → shr32.Post κs a r e → shr32.Post κs a s e → r ≡ s
+shr32-unique κs a r s e p q = p ∙ sym q
+
+pub rshift-round4-unique : (κs a r s e : _) → rshift-round4.Post κs a r e → rshift-round4.Post κs a s e → r ≡ s
+rshift-round4-unique κs a r s e p q = p ∙ sym q
+
+pub rshift-round5-unique : (κs a r s e : _) → rshift-round5.Post κs a r e → rshift-round5.Post κs a s e → r ≡ s
+rshift-round5-unique κs a r s e p q = p ∙ sym q
+
+pub rshift-round8-unique : (κs a r s e : _) → rshift-round8.Post κs a r e → rshift-round8.Post κs a s e → r ≡ s
+rshift-round8-unique κs a r s e p q = p ∙ sym q
+
+pub rshift-round10-unique : (κs a r s e : _) → rshift-round10.Post κs a r e → rshift-round10.Post κs a s e → r ≡ s
+rshift-round10-unique κs a r s e p q = p ∙ sym q
+
+pub rshift-round12-unique : (κs a r s e : _) → rshift-round12.Post κs a r e → rshift-round12.Post κs a s e → r ≡ s
+rshift-round12-unique κs a r s e p q = p ∙ sym q
+
+pub rshift-round14-unique : (κs a r s e : _) → rshift-round14.Post κs a r e → rshift-round14.Post κs a s e → r ≡ s
+rshift-round14-unique κs a r s e p q = p ∙ sym q
+
+pub or32-unique : (κs a r s e : _) → or32.Post κs a r e → or32.Post κs a s e → r ≡ s
+or32-unique κs a r s e p q = p ∙ sym q
+
+pub clz32-unique : (κs a r s e : _) → clz32.Post κs a r e → clz32.Post κs a s e → r ≡ s
+clz32-unique κs a r s e p q = p ∙ sym q
+
+pub clamp32-unique : (κs a r s e : _) → clamp32.Post κs a r e → clamp32.Post κs a s e → r ≡ s
+clamp32-unique κs a r s e p q = p ∙ sym q
+
+pub sat16-unique : (κs a r s e : _) → sat16.Post κs a r e → sat16.Post κs a s e → r ≡ s
+sat16-unique κs a r s e p q = p ∙ sym q
+
+pub min32-unique : (κs a r s e : _) → min32.Post κs a r e → min32.Post κs a s e → r ≡ s
+min32-unique κs a r s e p q = p ∙ sym q
+
+pub abs32-unique : (κs a r s e : _) → abs32.Post κs a r e → abs32.Post κs a s e → r ≡ s
+abs32-unique κs a r s e p q = p ∙ sym q
+
+pub rand-unique : (κs a r s e : _) → rand.Post κs a r e → rand.Post κs a s e → r ≡ s
+rand-unique κs a r s e p q = p ∙ sym q

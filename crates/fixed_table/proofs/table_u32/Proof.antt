@@ -1,0 +1,62 @@
+-- `fixed_table::table_u32` meets its contract. Assumes nothing.
+use Prim.Native.Nat.{_≤_, _-_}
+use borrow.Author.Needs.{needs}
+use Rattle.fixed_table.proofs.table_u32.Statement.{statement}
+use Rattle.fixed_table.proofs.table_u32.Tie as tie
+
+abbrev Inv-loop : tie.InvT-loop
+Inv-loop i₀ i = i ≤ 24
+
+abbrev μ-loop : tie.MeasureT-loop
+μ-loop i₀ i = 24 - i
+
+slice-aggregate-write-all : tie.Need-slice-aggregate-write-all Inv-loop μ-loop
+slice-aggregate-write-all c = search needs
+
+write-all-requires : tie.Need-write-all-requires Inv-loop μ-loop
+write-all-requires c κs = search needs
+
+loop-holds : tie.Need-loop-holds Inv-loop μ-loop
+loop-holds c = search needs
+
+mul-a : tie.Need-mul-a Inv-loop μ-loop
+mul-a c = search needs
+
+array-copy-out-a : tie.Need-array-copy-out-a Inv-loop μ-loop
+array-copy-out-a c = search needs
+
+bits32-requires : tie.Need-bits32-requires Inv-loop μ-loop
+bits32-requires c κs = search needs
+
+row-u32-requires : tie.Need-row-u32-requires Inv-loop μ-loop
+row-u32-requires c κs = search needs
+
+add-i : tie.Need-add-i Inv-loop μ-loop
+add-i c = search needs
+
+loop-less : tie.Need-loop-less Inv-loop μ-loop
+loop-less c = search needs
+
+loop-again : tie.Need-loop-again Inv-loop μ-loop
+loop-again c = search needs
+
+returns : tie.Need-returns Inv-loop μ-loop
+returns c = search needs
+
+pub table-u32-spec : {M : Type 1} → statement M
+table-u32-spec =
+    tie.close
+    (tie.spec
+    Inv-loop
+    μ-loop
+    slice-aggregate-write-all
+    write-all-requires
+    loop-holds
+    mul-a
+    array-copy-out-a
+    bits32-requires
+    row-u32-requires
+    add-i
+    loop-less
+    loop-again
+    returns)
