@@ -1,0 +1,2 @@
+-- Told: what owning a struct tells of its signed fields.
+pub mod Told
