@@ -1,0 +1,6 @@
+pub mod Taps
+pub mod WarpedFilter
+pub mod NoiseTerms
+pub mod Harmonic
+pub mod Residual
+pub mod Output
