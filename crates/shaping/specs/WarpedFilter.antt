@@ -1,10 +1,10 @@
 -- The warped noise-shaping filter of one path: `NSQ_del_dec.rs`, lines 638 to 673, up to the `<< 1`.
 -- The Rust keeps two words in hand, tmp1 and tmp2, and moves two places on at each turn. Both halves of its turn do the same
 -- thing, so a turn here moves one place on, with one word in hand: `tmp` is the Rust's tmp2 at even places and its tmp1 at
--- odd ones. `byPairs` below is the Rust's own order of steps, and the two are equal for every even order
--- (proofs/WarpedPairs.antt, `warped-by-pairs`).
+-- odd ones. `specs/WarpedPairs.antt` has the Rust's turns of two places, and the two give the same words and the same sum for
+-- every even order (proofs/WarpedPairs.antt, `warped-by-pairs`).
 -- Assumes nothing.
-use Prim.Native.Nat.{ℕ, suc, _+_, _-_, _*_, _/_}
+use Prim.Native.Nat.{ℕ, _+_, _-_, _/_}
 use mathlib.Core.List.{List}
 use lib.IntN.{ℤ, pos, _-ℤ_}
 use lib.ListN.{getD, set}

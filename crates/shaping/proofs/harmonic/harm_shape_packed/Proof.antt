@@ -20,7 +20,7 @@ or32-requires c κs = search needs
 
 returns : tie.Need-returns
 unfolding packedGain
-returns c = 
+returns c =
     let p3 = c .before in
     let p2 = p3 .before in
     let p1 = p2 .before in

@@ -50,7 +50,7 @@ sub32-requires c κs = search needs
 
 returns : tie.Need-returns
 unfolding shapedLag ltpTerm
-returns c = 
+returns c =
     let p8 = c .before in
     let p7 = p8 .before in
     let p6 = p7 .before in

@@ -20,7 +20,7 @@ shl32-requires c κs = search needs
 
 returns : tie.Need-returns
 unfolding lfTerm
-returns c = 
+returns c =
     let p3 = c .before in
     let p2 = p3 .before in
     let p1 = p2 .before in

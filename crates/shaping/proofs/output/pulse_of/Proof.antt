@@ -15,7 +15,7 @@ low8-requires c κs = search needs
 
 returns : tie.Need-returns
 unfolding pulseOf
-returns c = 
+returns c =
     let p = c .before in
     let rounded = rw (read (p .before .fits .q-q10)) at (p .rshift-round10 .ensures) in
     back w8 (c .low8 .result) (c .low8 .ok)

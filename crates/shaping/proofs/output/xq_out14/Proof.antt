@@ -17,7 +17,7 @@ sat16-requires c κs = search needs
 
 returns : tie.Need-returns
 unfolding xqOut
-returns c = 
+returns c =
     let p2 = c .before in
     let p1 = p2 .before in
     let f = p1 .before .fits in

@@ -23,7 +23,7 @@ sub32-requires-2 c κs = search needs
 
 returns : tie.Need-returns
 unfolding predicted residual
-returns c = 
+returns c =
     let p4 = c .before in
     let p3 = p4 .before in
     let p2 = p3 .before in

@@ -52,7 +52,7 @@ loop-less : tie.Need-loop-less Inv-loop μ-loop
 loop-less c = search needs
 
 loop-again : tie.Need-loop-again Inv-loop μ-loop
-loop-again c = 
+loop-again c =
     let p = c .before in
     let l = p .before .before .before .loop in
     let a = p .before .before .before .before .args in
@@ -62,7 +62,7 @@ loop-again c =
     )
 
 returns : tie.Need-returns Inv-loop μ-loop
-returns c = 
+returns c =
     let l = c .before .loop in
     let e : l .k ≡ c .before .before .args .count = omega arith in
     rw (e, read (c .before .before .fits .start)) at (l .inv .1)

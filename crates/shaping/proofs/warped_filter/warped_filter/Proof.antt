@@ -1,12 +1,13 @@
 -- `shaping::warped_filter::warped_filter` meets its contract. Assumes nothing.
-use Prim.Native.Nat.{_+_, _-_, _≤_}
+use Prim.Native.Nat.{_+_, _-_, _/_, _≤_}
 use mathlib.Core.Path.{_≡_, refl, ap, _∙_}
 use mathlib.Core.List.{List}
-use lib.IntN.{ℤ}
+use lib.IntN.{ℤ, pos}
+use lib.ListN.{getD}
 use native.Mathlib.Omega.{arith}
 use borrow.Author.Needs.{needs}
 use mir.Syntax.{w16, w32}
-use mir.Val.{toZ}
+use mir.Val.{toZ, ofZ, SFits}
 use Rattle.fixed.specs.Iter.{iter}
 use Rattle.fixed.proofs.Iters.{iter-more}
 use Rattle.fixed.proofs.Fit.{read, got32, got16}
@@ -36,7 +37,12 @@ smlawb-requires : tie.Need-smlawb-requires Inv-loop μ-loop
 smlawb-requires c κs = search needs
 
 loop-holds : tie.Need-loop-holds Inv-loop μ-loop
-loop-holds c = ?
+loop-holds c =
+    let p = c .before in
+    let z : SFits w32 (getD (p .before .args .s .now) 0 (pos 0)) = search needs in
+    let t = got32 (c .smlawb .result) (c .smlawb .ok) ∙ rw (read z) at (c .smlawb .ensures) in
+    let n = got32 (pos (p .before .args .order / 2)) (omega (arith, p .before .pre)) in
+    (omega (arith, p .before .pre), rw (t, n))
 
 add-loop : tie.Need-add-loop Inv-loop μ-loop
 add-loop c = search needs
@@ -84,7 +90,22 @@ loop-less : tie.Need-loop-less Inv-loop μ-loop
 loop-less c = search needs
 
 loop-again : tie.Need-loop-again Inv-loop μ-loop
-loop-again c = ?
+loop-again c =
+    let p = c .before in
+    let p2 = p .before in
+    let p3 = p2 .before in
+    let p4 = p3 .before in
+    let p5 = p4 .before in
+    let l = p5 .before .before .loop in
+    let a = p5 .before .before .before .before .before .args in
+    let d = rw (got32 _ (p4 .sub32-arg .given)) at (p3 .sub32 .ensures) in
+    let t =
+    got32 (p2 .smlawb2 .result) (p2 .smlawb2 .ok)
+    ∙ rw (got32 _ (p5 .smlawb-arg2 .given), got32 (p3 .sub32 .result) (p3 .sub32 .ok), d) at (p2 .smlawb2 .ensures) in
+    let n = got32 (c .smlawb3 .result) (c .smlawb3 .ok) ∙ rw (got16 _ (p .smlawb-arg3 .given)) at (c .smlawb3 .ensures) in (
+      omega arith,
+      rw (t, n) (iter-more (turn (a .ar .now) (toZ w16 (ofZ w16 (a .warping)))) (l .j) _ _ (l .inv .1)),
+    )
 
 mul-tmp-2 : tie.Need-mul-tmp-2 Inv-loop μ-loop
 mul-tmp-2 c = search needs
@@ -102,7 +123,16 @@ smlawb-requires-4 : tie.Need-smlawb-requires-4 Inv-loop μ-loop
 smlawb-requires-4 c κs = search needs
 
 returns : tie.Need-returns Inv-loop μ-loop
-returns c = ?
+unfolding warpedFilter
+returns c =
+    let p = c .before in
+    let l = p .before .before .loop in
+    let st = p .before .before .before .before .before in
+    let a = st .args in
+    let o : a .order - 1 ≡ l .j = omega arith in
+    let n = got32 (c .smlawb4 .result) (c .smlawb4 .ok) ∙ rw (got16 _ (p .smlawb-arg4 .given)) at (c .smlawb4 .ensures) in
+    let e = rw (read (st .fits .warping), read (st .fits .diff)) at (ap (write (a .ar .now) (l .j)) (l .inv .1)) in
+    rw o (n ∙ ap (λ (f : Filter). f .«n_AR_Q14») e, ap (λ (f : Filter). f .«sAR2_Q14») e)
 
 pub warped-filter-spec : {M : Type 1} → statement M
 warped-filter-spec =
