@@ -31,9 +31,9 @@ fn of_words(function: usize, a: i32) -> i32 {
         5 => noise_terms::n_LF(x, y, words::word(c)),
         6 => harmonic::harm_shape_packed(x),
         8 => residual_of(x, y, c),
-        9 => output::pulse_of(words::level(a)) as i32,
-        10 => output::xq_out8(x, y) as i32,
-        _ => output::xq_out14(x, y) as i32,
+        9 => wrap::wide8(output::pulse_of(words::level(a))),
+        10 => wrap::wide16(output::xq_out8(x, y)),
+        _ => wrap::wide16(output::xq_out14(x, y)),
     }
 }
 
@@ -47,7 +47,7 @@ fn residual_of(x: i32, y: i32, c: i32) -> i32 {
 fn short(seed: i32, i: usize) -> i32 {
     let buf = words::words96(seed);
     let coef = words::halves24(words::next(seed));
-    let order: usize = if i % 2 == 0 { 10 } else { 16 };
+    let order = 10 + 6 * (i % 2);
     let at = 15 + i % 81;
     short_prediction::silk_noise_shape_quantizer_short_prediction(&buf, at, &coef, order)
 }

@@ -1,4 +1,5 @@
 // The digest FNV-1a of 64 bits.
+use fixed::wrap;
 use std::num;
 
 pub fn start() -> u64 {
@@ -7,7 +8,7 @@ pub fn start() -> u64 {
 
 // The digest with the four bytes of a word more, the lowest first.
 pub fn word(sum: u64, x: i32) -> u64 {
-    let bits = bits_of(x);
+    let bits = wrap::bits32(x) as u64;
     let one = byte(sum, bits % 256);
     let two = byte(one, bits / 256 % 256);
     let three = byte(two, bits / 65536 % 256);
@@ -23,14 +24,4 @@ fn times_prime(sum: u64) -> u64 {
     let low = sum % 4294967296 * 435;
     let high = (sum / 4294967296 * 435) << 32;
     num::wrapping_add_u64(num::wrapping_add_u64(sum << 40, high), low)
-}
-
-// The 32 bits of x.
-fn bits_of(x: i32) -> u64 {
-    let wide = x as i64;
-    if wide < 0 {
-        (wide + 4294967296) as u64
-    } else {
-        wide as u64
-    }
 }

@@ -9,6 +9,8 @@ mod digest;
 mod words;
 
 use fixed::generator;
+use fixed::range;
+use fixed::wrap;
 
 const FUNCTIONS: usize = 12;
 
@@ -56,14 +58,11 @@ fn name(function: usize) {
     ;
 }
 
-// A space and a number.
+// A space and a number. The bits of |x| are |x| also for the least number, which has no negation.
 fn print(x: i32) {
-    let wide = x as i64;
-    if wide < 0 {
-        io::write_all(1, b" -");
-        io::print_decimal(1, (0 - wide) as u64);
-    } else {
-        io::write_all(1, b" ");
-        io::print_decimal(1, wide as u64);
+    io::write_all(1, b" ");
+    if x < 0 {
+        io::write_all(1, b"-");
     }
+    io::print_decimal(1, wrap::bits32(range::abs32(x)) as u64);
 }
