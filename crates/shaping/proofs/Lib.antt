@@ -1,0 +1,5 @@
+-- Laws of this crate. TapCount: how many taps a prediction has. WarpedPairs: the warped filter in the Rust's own order of steps.
+-- Unique: each contract leaves one outcome.
+pub mod TapCount
+pub mod WarpedPairs
+pub mod Unique

@@ -1,0 +1,48 @@
+-- Each contract leaves one outcome: two results that meet it are equal, and so are the words that a row is left with.
+-- Assumes nothing.
+use mathlib.Core.Path.{_≡_, sym, _∙_}
+use denote.Ref.{now}
+use Rattle.shaping.proofs.short_prediction.silk_noise_shape_quantizer_short_prediction.Reads as short-prediction
+use Rattle.shaping.proofs.long_prediction.ltp_prediction.Reads as ltp-prediction
+use Rattle.shaping.proofs.warped_filter.warped_filter.Reads as warped-filter
+use Rattle.shaping.proofs.noise_terms.n_AR.Reads as n-AR
+use Rattle.shaping.proofs.noise_terms.n_LF.Reads as n-LF
+use Rattle.shaping.proofs.harmonic.harm_shape_packed.Reads as harm-shape-packed
+use Rattle.shaping.proofs.harmonic.n_LTP.Reads as n-LTP
+use Rattle.shaping.proofs.residual.residual.Reads as residual
+use Rattle.shaping.proofs.output.pulse_of.Reads as pulse-of
+use Rattle.shaping.proofs.output.xq_out8.Reads as xq-out8
+use Rattle.shaping.proofs.output.xq_out14.Reads as xq-out14
+
+pub silk-noise-shape-quantizer-short-prediction-unique : (κs a r s e : _) → short-prediction.Post κs a r e → short-prediction.Post κs a s e → r ≡ s
+silk-noise-shape-quantizer-short-prediction-unique κs a r s e p q = p ∙ sym q
+
+pub ltp-prediction-unique : (κs a r s e : _) → ltp-prediction.Post κs a r e → ltp-prediction.Post κs a s e → r ≡ s
+ltp-prediction-unique κs a r s e p q = p ∙ sym q
+
+pub n-AR-unique : (κs a r s e : _) → n-AR.Post κs a r e → n-AR.Post κs a s e → r ≡ s
+n-AR-unique κs a r s e p q = p ∙ sym q
+
+pub n-LF-unique : (κs a r s e : _) → n-LF.Post κs a r e → n-LF.Post κs a s e → r ≡ s
+n-LF-unique κs a r s e p q = p ∙ sym q
+
+pub harm-shape-packed-unique : (κs a r s e : _) → harm-shape-packed.Post κs a r e → harm-shape-packed.Post κs a s e → r ≡ s
+harm-shape-packed-unique κs a r s e p q = p ∙ sym q
+
+pub n-LTP-unique : (κs a r s e : _) → n-LTP.Post κs a r e → n-LTP.Post κs a s e → r ≡ s
+n-LTP-unique κs a r s e p q = p ∙ sym q
+
+pub residual-unique : (κs a r s e : _) → residual.Post κs a r e → residual.Post κs a s e → r ≡ s
+residual-unique κs a r s e p q = p ∙ sym q
+
+pub pulse-of-unique : (κs a r s e : _) → pulse-of.Post κs a r e → pulse-of.Post κs a s e → r ≡ s
+pulse-of-unique κs a r s e p q = p ∙ sym q
+
+pub xq-out8-unique : (κs a r s e : _) → xq-out8.Post κs a r e → xq-out8.Post κs a s e → r ≡ s
+xq-out8-unique κs a r s e p q = p ∙ sym q
+
+pub xq-out14-unique : (κs a r s e : _) → xq-out14.Post κs a r e → xq-out14.Post κs a s e → r ≡ s
+xq-out14-unique κs a r s e p q = p ∙ sym q
+
+pub warped-filter-unique : (κs a r s e f : _) → warped-filter.Post κs a r e → warped-filter.Post κs a s f → (r ≡ s) × (now (e .0) ≡ now (f .0))
+warped-filter-unique κs a r s e f p q = (p .0 ∙ sym (q .0), p .1 ∙ sym (q .1))

@@ -1,0 +1,16 @@
+-- What a coded sample hands out: `NSQ_del_dec.rs`, lines 861 to 919.
+-- Assumes nothing.
+use Prim.Native.Nat.{ℕ}
+use lib.IntN.{ℤ}
+use Rattle.fixed.specs.Wrap.{wrap8}
+use Rattle.fixed.specs.Shift.{rround}
+use Rattle.fixed.specs.Range.{sat16}
+use Rattle.fixed.specs.Product.{smulww}
+
+-- the pulse of the level Q_Q10: rounded shift by 10, as i8
+unfoldable pub pulseOf : ℤ → ℤ
+pulseOf q = wrap8 (rround q 10)
+
+-- the output sample: (Xq_Q14 * gain >> 16) as i32, rounded shift by `places`, held to 16 bits
+unfoldable pub xqOut : ℤ → ℤ → ℕ → ℤ
+xqOut xq gain places = sat16 (rround (smulww xq gain) places)
