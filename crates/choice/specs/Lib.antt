@@ -1,0 +1,4 @@
+pub mod Offset
+pub mod Residual
+pub mod RustChoice
+pub mod RuleChoice
