@@ -1,4 +1,4 @@
--- Document 01's marked examples, by computation.
+-- Document 01's marked examples, and its slip about the clamp, by computation.
 -- Assumes nothing.
 use Prim.Native.Nat.{ℕ}
 use mathlib.Core.Path.{_≡_, refl}
@@ -8,6 +8,9 @@ use Rattle.fixed.specs.Wrap.{wrapTo, wrap32, wrap16}
 use Rattle.fixed.specs.Shift.{shr, shl32, shr32}
 use Rattle.fixed.specs.Product.{smulbb, smlabb}
 use Rattle.choice.specs.declared.candidate.Choice.{Choice}
+use Rattle.fixed.specs.Range.{clamp}
+use Rattle.choice.specs.Residual.{turned, signedResidual}
+use Rattle.choice.specs.RuleChoice.{levelOf, rounded, lowerOf, costSum, costOf, between, ruled}
 use Rattle.choice.specs.RustChoice.{biased, «q1_Q0», above, atZero, atMinusOne, below, tried, withNoise, ordered, costed, choice}
 
 -- a row of the table
@@ -35,7 +38,14 @@ marked =
     ∷ row (pos 1124) (pos 32768) (pos 100) (pos 1044) (negsuc 33401) (pos 100) (negsuc 2175)
     ∷ []
 
--- all eight rows: what the definition gives is what the table says
-pub marked-examples : map (λ e. choice (e .residual) (e .Lambda) (e .offset)) marked ≡ map (λ e. e .candidates) marked
-unfolding choice costed ordered withNoise tried below atMinusOne atZero above «q1_Q0» biased smulbb smlabb shl32 shr32 shr wrap32 wrap16 wrapTo
-marked-examples = refl
+-- all eight rows: what the Rust's steps give, and what document 01's rule gives, is what the table says
+pub marked-examples :
+    (map (λ e. choice (e .residual) (e .Lambda) (e .offset)) marked ≡ map (λ e. e .candidates) marked)
+    × (map (λ e. ruled (e .residual) (e .Lambda) (e .offset)) marked ≡ map (λ e. e .candidates) marked)
+unfolding choice costed ordered withNoise tried below atMinusOne atZero above «q1_Q0» biased ruled between costOf costSum lowerOf rounded levelOf smulbb smlabb shl32 shr32 shr wrap32 wrap16 wrapTo
+marked-examples = (refl, refl)
+
+-- residual 31000 with a negative seed becomes -31000, not -30720: the sign comes before the clamp
+pub sign-before-clamp : signedResidual (negsuc 0) (pos 31000) ≡ negsuc 30999
+unfolding signedResidual turned clamp wrap32 wrapTo
+sign-before-clamp = refl

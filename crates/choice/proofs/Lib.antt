@@ -5,3 +5,6 @@ pub mod Toward
 pub mod Near
 pub mod Exact
 pub mod Rule
+pub mod Rfc
+pub mod Bounds
+pub mod Table

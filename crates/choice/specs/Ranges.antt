@@ -2,11 +2,14 @@
 -- Assumes nothing.
 use mathlib.Core.Path.{_≡_}
 use mathlib.Core.Bool.{true}
+use mathlib.Core.Logic.{_⊎_}
 use lib.IntN.{ℤ, pos, negsuc, negℤ, natAbs, _+ℤ_, _-ℤ_, _*ℤ_}
 use lib.Signed.{_≤ℤ_, ltZ, quotZ}
 use mir.Syntax.{w16, w32}
 use mir.Val.{SFits}
 use Rattle.fixed.specs.Wrap.{wrap16}
+use Rattle.choice.specs.declared.candidate.Choice.{Choice}
+use Rattle.choice.specs.Residual.{pulseOf}
 use Rattle.choice.specs.RuleChoice.{levelOf, lowerOf, costSum}
 
 -- a residual after its clamp, and an offset from the least to the greatest of the table
@@ -45,3 +48,22 @@ pub record NothingWraps (r Lambda offset : ℤ) : Type 0 where
   pub pulse : PulseFits offset (lowerOf (r -ℤ offset) Lambda)
   pub lower : LevelFits r Lambda (levelOf offset (lowerOf (r -ℤ offset) Lambda))
   pub upper : LevelFits r Lambda (levelOf offset (lowerOf (r -ℤ offset) Lambda +ℤ pos 1))
+
+-- the levels of a choice are those of the pulses `first` and `second`, and rounding gives these back
+pub record Ordered (offset first second : ℤ) (c : Choice) : Type 0 where
+  pub «first_level» : c .«first_level» ≡ levelOf offset first
+  pub «second_level» : c .«second_level» ≡ levelOf offset second
+  pub «first_pulse» : pulseOf (c .«first_level») ≡ first
+  pub «second_pulse» : pulseOf (c .«second_level») ≡ second
+
+-- the candidates are the neighbours p and p + 1 in either order, and both lie in -32 .. 30
+pub record Neighbours (offset p : ℤ) (c : Choice) : Type 0 where
+  pub low : negsuc 31 ≤ℤ p
+  pub high : (p +ℤ pos 1) ≤ℤ pos 30
+  pub order : Ordered offset p (p +ℤ pos 1) c ⊎ Ordered offset (p +ℤ pos 1) p c
+
+-- the least and the greatest cost that any residual, Lambda and offset of the table have, and the order of the two
+pub record Costs (c : Choice) : Type 0 where
+  pub least : negsuc 1044179 ≤ℤ c .«first_cost»
+  pub order : c .«first_cost» ≤ℤ c .«second_cost»
+  pub most : c .«second_cost» ≤ℤ pos 1045828
