@@ -1,0 +1,10 @@
+pub mod Laws
+pub mod Unique
+pub mod Examples
+pub mod Toward
+pub mod Near
+pub mod Exact
+pub mod Rule
+pub mod Rfc
+pub mod Bounds
+pub mod Table
