@@ -1,4 +1,5 @@
 -- `paths::among::swap_of` meets its contract. Assumes nothing.
+use mathlib.Core.Path.{_≡_, ap, _∙_}
 use borrow.Author.Needs.{needs}
 use Rattle.paths.specs.Data.{candidateAt}
 use Rattle.paths.specs.Among.{swapOf}
@@ -39,7 +40,7 @@ returns c =
     let d = w .before .args .t1 in
     let x = candidate (candidateAt d (l .least .result) 1) (t .struct-told .given) .rd in
     let y = candidate (candidateAt d (w .worst-first .result) 0) (c .struct-told2 .given) .rd in
-    (simp (x, y, l .least .ensures .0, w .worst-first .ensures .0), (w .worst-first .ensures .1, l .least .ensures .1))
+    (simp (x, y) (simp (l .least .ensures .0, w .worst-first .ensures .0)), (w .worst-first .ensures .1, l .least .ensures .1))
 
 pub swap-of-spec : {M : Type 1} → statement M
 swap-of-spec =
