@@ -1,0 +1,2 @@
+-- Head: the normalisation.
+pub mod Head
