@@ -1,2 +1,4 @@
--- Head: the normalisation.
+-- Head: the normalisation. Laws: equal readings of a definition. Unique: each contract leaves one outcome.
 pub mod Head
+pub mod Laws
+pub mod Unique

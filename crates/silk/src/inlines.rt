@@ -23,5 +23,9 @@ pub fn silk_DIV32_varQ(a32: i32, b32: i32, Qres: u32) -> i32
 {
     let b32_nrm = inverse::nrm(b32);
     let result = inverse::result_2(inverse::nrm(a32), b32_nrm, inverse::b32_inv(b32_nrm));
-    inverse::shifted(result, inverse::headrm(b32) + Qres, 29 + inverse::headrm(a32))
+    inverse::shifted(
+        result,
+        inverse::headrm(b32) + Qres,
+        29 + inverse::headrm(a32),
+    )
 }

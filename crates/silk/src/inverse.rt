@@ -37,7 +37,10 @@ pub fn b32_inv(b32_nrm: i32) -> i32
 fn lshift_SAT32(z: i32, s: u32) -> i32
     ensures { λ r. ⌜ r ≡ lshiftSat32 z s ⌝ }
 {
-    shift::shl32(range::clamp32(z, shift::shr32(-2147483648, s), shift::shr32(2147483647, s)), s)
+    shift::shl32(
+        range::clamp32(z, shift::shr32(-2147483648, s), shift::shr32(2147483647, s)),
+        s,
+    )
 }
 
 // The result, moved up by `up` and down by `down`.
@@ -48,7 +51,11 @@ pub fn shifted(result: i32, up: u32, down: u32) -> i32
         lshift_SAT32(result, up - down)
     } else {
         let lshift = down - up;
-        if lshift < 32 { shift::shr32(result, lshift) } else { 0 }
+        if lshift < 32 {
+            shift::shr32(result, lshift)
+        } else {
+            0
+        }
     }
 }
 

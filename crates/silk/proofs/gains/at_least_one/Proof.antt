@@ -14,7 +14,7 @@ use Rattle.silk.proofs.gains.at_least_one.Tie as tie
 
 returns : tie.Need-returns
 unfolding atLeastOne
-returns c = 
+returns c =
     let f = c .before .fits .gain in
     let t = test32 (lit32 (pos 1) tt) f (c .if1 .taken) in
     rw (read f, t) (refl, le-of-lin (pos 1) (c .before .args .gain) (omega (arith, lt-true (pos 1) (c .before .args .gain) t)))

@@ -14,7 +14,7 @@ silk-INVERSE32-varQ-requires c κs = search needs
 
 returns : tie.Need-returns
 unfolding «inv_gain_Q31»
-returns c = 
+returns c =
     let m = c .before .at-least-one in
     let v = got32 (m .result) (m .ok) ∙ rw (read (c .before .before .fits .gain)) at (m .ensures .0) in
     got32 (c .silk-INVERSE32-varQ .result) (c .silk-INVERSE32-varQ .ok) ∙ rw v at (c .silk-INVERSE32-varQ .ensures)

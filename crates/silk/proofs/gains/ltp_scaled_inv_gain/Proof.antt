@@ -17,7 +17,7 @@ shl32-requires c κs = search needs
 
 returns : tie.Need-returns
 unfolding «ltp_scaled_inv_gain»
-returns c = 
+returns c =
     let p1 = c .before in
     let p2 = p1 .before in
     let f = p2 .before .fits in

@@ -35,7 +35,7 @@ shifted-requires c κs = search needs
 
 returns : tie.Need-returns
 unfolding «silk_DIV32_varQ»
-returns c = 
+returns c =
     let p1 = c .before in
     let p2 = p1 .before in
     let p3 = p2 .before in

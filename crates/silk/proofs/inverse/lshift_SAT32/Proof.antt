@@ -20,7 +20,7 @@ shl32-requires c κs = search needs
 
 returns : tie.Need-returns
 unfolding «lshift_SAT32»
-returns c = 
+returns c =
     let p = c .before in
     let q = p .before in
     let lo = q .before .shr32 in

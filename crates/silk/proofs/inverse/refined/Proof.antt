@@ -26,7 +26,7 @@ smlaww-requires c κs = search needs
 
 returns : tie.Need-returns
 unfolding refined «err_Q32»
-returns c = 
+returns c =
     let p1 = c .before in
     let p2 = p1 .before in
     let p3 = p2 .before in

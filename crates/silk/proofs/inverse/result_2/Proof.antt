@@ -26,7 +26,7 @@ smlawb-requires c κs = search needs
 
 returns : tie.Need-returns
 unfolding «result_2» rest «result_1»
-returns c = 
+returns c =
     let p1 = c .before in
     let p2 = p1 .before in
     let p3 = p2 .before in

@@ -18,13 +18,13 @@ shr32-requires c κs = search needs
 
 returns : tie.Need-returns
 unfolding shifted
-returns c = 
+returns c =
     let m = c .lshift-SAT32 in
     rw (le-leb _ _ (c .before .if1 .taken)) (got32 (m .result) (m .ok) ∙ rw (read (c .before .before .fits .result)) at (m .ensures))
 
 returns-2 : tie.Need-returns-2
 unfolding shifted
-returns-2 c = 
+returns-2 c =
     let p = c .before in
     let m = c .shr32 in
     rw (lt-leb _ _ (p .before .if1 .left), lt-ltb _ _ (p .if2 .taken))

@@ -9,7 +9,7 @@ use denote.Ref.{now}
 use mir.Syntax.{w16, w32}
 use mir.Val.{toZ}
 use Rattle.fixed.specs.Iter.{iter}
-use Rattle.fixed.proofs.Fit.{back, got32}
+use Rattle.fixed.proofs.Fit.{got16, got32}
 use Rattle.fixed.proofs.Iters.{iter-more}
 use Rattle.silk.specs.Filter.{tap, prediction}
 use Rattle.silk.proofs.lpc_analysis_filter.prediction.Statement.{statement}
@@ -55,11 +55,24 @@ loop-less : tie.Need-loop-less Inv-loop μ-loop
 loop-less c = search needs
 
 loop-again : tie.Need-loop-again Inv-loop μ-loop
-loop-again c = ?
+loop-again c =
+    let p1 = c .before in
+    let p2 = p1 .before in
+    let p3 = p2 .before in
+    let l = p3 .before .before in
+    let a = l .before .args in
+    let v = got32 (p1 .mul16 .result) (p1 .mul16 .ok) ∙ rw (got16 _ (p3 .mul16-arg .given), got16 _ (p2 .mul16-arg2 .given)) at (p1 .mul16 .ensures) in (
+      search needs,
+      got32 (c .add32 .result) (c .add32 .ok) ∙ rw v at (c .add32 .ensures)
+          ∙ iter-more (tap (now (a .input)) (now (a .b)) (a .ix)) (l .loop .j) (toZ w32 (l .loop .out32-Q12)) (pos 0) (l .loop .inv .1),
+    )
 
 returns : tie.Need-returns Inv-loop μ-loop
 unfolding prediction
-returns c = ?
+returns c =
+    let l = c .before in
+    let e : l .loop .j ≡ l .before .args .order = omega arith in
+    rw (← e) (l .loop .inv .1)
 
 pub prediction-spec : {M : Type 1} → statement M
 prediction-spec =
