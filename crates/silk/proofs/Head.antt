@@ -4,11 +4,11 @@ use Prim.Native.Nat.{ℕ, suc, _+_, _-_, _*_, _/_, _%_, _^_, _≤_, _<_}
 use native.Mathlib.Omega.{arith}
 use native.Mathlib.Nat.{mul-le-mul-right, mul-lt-mul-of-pos-right, div-le-self, lt-of-le-of-lt, mod-eq-of-lt}
 use native.Mathlib.Decide.{decLe}
-use lib.IntN.{ℤ, pos, negsuc, _*ℤ_}
+use lib.IntN.{ℤ, pos, negsuc}
 use lib.Count.{leadingZeros, leading-top}
 use lib.Dec.{lit<, leb→le, le→leb}
 use lib.Pow.{pow-add, pow-pos, pow-mono}
-use lib.Signed.{quotZ, _≤ℤ_}
+use lib.Signed.{_≤ℤ_}
 use borrow.Author.Tests.{lt-ltb, le-ltb}
 use mir.Syntax.{w32}
 use mir.Val.{SFits, ofZ}

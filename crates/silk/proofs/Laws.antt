@@ -6,7 +6,6 @@ use lib.IntN.{ℤ, pos, negsuc, _*ℤ_}
 use borrow.Author.Tests.{le-ltb}
 use mir.Syntax.{w32}
 use mir.Val.{SFits}
-use Rattle.fixed.specs.Iter.{either}
 use Rattle.fixed.specs.Range.{clamp}
 use Rattle.fixed.specs.Shift.{shr, shl32, shr32}
 use Rattle.fixed.proofs.Lin.{eq-of, neg-lin}

@@ -29,6 +29,7 @@ filterTurn input b order k out = set out (order + k) (filtered input b order (or
 abbrev pub clearTurn : ℕ → List ℤ → List ℤ
 clearTurn i out = set out i (pos 0)
 
--- every place from `order` on is filtered, and then those before it are cleared
+-- the output has as many places as the input: every one from `order` on is filtered, and then those before it are cleared.
+-- What the row has past them stays.
 unfoldable pub analysis : List ℤ → List ℤ → List ℤ → ℕ → List ℤ
-analysis out input b order = iter clearTurn order (iter (filterTurn input b order) (length out - order) out)
+analysis out input b order = iter clearTurn order (iter (filterTurn input b order) (length input - order) out)

@@ -1,6 +1,5 @@
 -- What `silk_nsq_del_dec_scale_states` makes of a subframe's gain, line by line under the Rust's names.
 -- Assumes nothing.
-use mathlib.Core.Bool.{Bool}
 use lib.IntN.{ℤ, pos}
 use lib.Signed.{ltZ}
 use Rattle.fixed.specs.Wrap.{wrap16}

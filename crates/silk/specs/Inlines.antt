@@ -3,7 +3,6 @@
 -- Counts are natural numbers: the Rust's `lshift` is `down - up` here, so its sign is a test of the two.
 -- Assumes nothing.
 use Prim.Native.Nat.{ℕ, _+_, _-_}
-use mathlib.Core.Bool.{Bool}
 use lib.IntN.{ℤ, pos, negsuc, _-ℤ_}
 use lib.Dec.{ltb, leb}
 use lib.Signed.{quotZ}

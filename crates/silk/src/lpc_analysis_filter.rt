@@ -30,13 +30,13 @@ fn filtered(input: &[i16], b: &[i16], order: usize, ix: usize) -> i16
     range::sat16(shift::rshift_round12(left))
 }
 
-// Filters into `out`, whose first `order` words are cleared. The filter starts anew at the start of `input`, so no input
-// before it is read.
+// Filters `input` into the start of `out`, whose first `order` words are cleared and whose words past the input's length
+// stay. The Rust's `len` is the input's length. The filter starts anew with `input`, so nothing before it is read.
 pub fn silk_LPC_analysis_filter(out: &mut [i16], input: &[i16], b: &[i16], order: usize)
-    requires { ⌜ (length (now out) ≤ length (now input)) × (order ≤ length (now b)) × (order ≤ length (now out)) ⌝ }
+    requires { ⌜ (length (now input) ≤ length (now out)) × (order ≤ length (now b)) × (order ≤ length (now input)) ⌝ }
     ensures { λ _. ⌜ now (out .exit) ≡ analysis (now (out .entry)) (now (input .entry)) (now (b .entry)) order ⌝ }
 {
-    let n = out.len() - order;
+    let n = input.len() - order;
     for k in 0..n {
         out[order + k] = filtered(input, b, order, order + k);
     }

@@ -22,10 +22,10 @@ pub struct Settings {
 // The words of `silk_nsq_state` that the quantiser names: the history of decoded samples and of shaping words, the
 // words of the two filters, and what one frame leaves for the next.
 pub struct NsqState {
-    pub xq: [i16; 640],
-    pub sLTP_shp_Q14: [i32; 640],
-    pub sLPC_Q14: [i32; 96],
-    pub sAR2_Q14: [i32; 24],
+    pub xq: [i16; NsqState::XQ_LEN],
+    pub sLTP_shp_Q14: [i32; NsqState::LTP_SHP_LEN],
+    pub sLPC_Q14: [i32; NsqState::LPC_LEN],
+    pub sAR2_Q14: [i32; NsqState::AR2_LEN],
     pub sLF_AR_shp_Q14: i32,
     pub sDiff_shp_Q14: i32,
     pub lagPrev: i32,
@@ -36,14 +36,15 @@ pub struct NsqState {
 }
 
 impl NsqState {
-    // The lengths of the four rows.
-    pub const XQ: usize = 640;
+    // The lengths of the four rows. The first two have room for 320 words of history and 320 of a frame, the third for
+    // 16 words and a subframe of 80.
+    pub const XQ_LEN: usize = 640;
 
-    pub const LTP_SHP: usize = 640;
+    pub const LTP_SHP_LEN: usize = 640;
 
-    pub const LPC: usize = 96;
+    pub const LPC_LEN: usize = 96;
 
-    pub const AR2: usize = 24;
+    pub const AR2_LEN: usize = 24;
 
     // The lag and the gain from which a fresh state starts.
     pub const FRESH_LAG: i32 = 0;

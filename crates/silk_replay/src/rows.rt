@@ -21,7 +21,7 @@ fn filter_row(seed: i32, i: u32) -> i32 {
     let mut row = [77i16; 80];
     let after = fill(&mut input, seed, i % 3);
     let last = fill(&mut b, after, i / 3 % 3);
-    lpc_analysis_filter::silk_LPC_analysis_filter(&mut row[9..73], &input, &b, order(i));
+    lpc_analysis_filter::silk_LPC_analysis_filter(&mut row[9..], &input, &b, order(i));
     print(&row);
     last
 }

@@ -1,11 +1,7 @@
 -- `silk::gains::at_least_one` meets its contract. Assumes nothing.
-use mathlib.Core.Path.{_≡_, refl}
+use mathlib.Core.Path.{refl}
 use native.Mathlib.Omega.{arith}
-use borrow.Author.Needs.{needs}
-use mathlib.Core.Bool.{true}
-use lib.IntN.{ℤ, pos, negsuc}
-use lib.Dec.{T, lit≤, leb→le, le→leb}
-use lib.Signed.{ltZ, _≤ℤ_}
+use lib.IntN.{pos}
 use Rattle.fixed.proofs.Fit.{read, test32, lit32}
 use Rattle.fixed.proofs.Lin.{le-of-lin, lt-true}
 use Rattle.silk.specs.Gains.{atLeastOne}

@@ -1,5 +1,5 @@
 -- `silk::inverse::lshift_SAT32` meets its contract. Assumes nothing.
-use mathlib.Core.Path.{_≡_, _∙_}
+use mathlib.Core.Path.{_∙_}
 use borrow.Author.Needs.{needs}
 use Rattle.silk.specs.Inlines.{«lshift_SAT32»}
 use Rattle.fixed.proofs.Fit.{read, got32}

@@ -1,12 +1,11 @@
 -- `silk::lpc_analysis_filter::prediction` meets its contract. Assumes nothing.
 use mathlib.Core.Path.{_≡_, refl, _∙_}
-use Prim.Native.Nat.{_+_, _-_, _≤_, _<_}
+use Prim.Native.Nat.{_-_, _≤_}
 use native.Mathlib.Omega.{arith}
 use borrow.Author.Needs.{needs}
-use lib.ListN.{getD}
 use lib.IntN.{pos}
 use denote.Ref.{now}
-use mir.Syntax.{w16, w32}
+use mir.Syntax.{w32}
 use mir.Val.{toZ}
 use Rattle.fixed.specs.Iter.{iter}
 use Rattle.fixed.proofs.Fit.{got16, got32}

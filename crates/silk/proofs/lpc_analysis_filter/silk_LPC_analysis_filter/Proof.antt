@@ -1,10 +1,9 @@
 -- `silk::lpc_analysis_filter::silk_LPC_analysis_filter` meets its contract. Assumes nothing.
-use mathlib.Core.Path.{_≡_, refl, _∙_}
-use Prim.Native.Nat.{_+_, _-_, _≤_, _<_}
+use mathlib.Core.Path.{_≡_, _∙_}
+use Prim.Native.Nat.{_-_, _≤_}
 use native.Mathlib.Omega.{arith}
 use borrow.Author.Needs.{needs}
 use lib.ListN.{length, length-set}
-use lib.IntN.{pos}
 use denote.Ref.{now}
 use Rattle.fixed.specs.Iter.{iter}
 use Rattle.fixed.proofs.Fit.{got16}
@@ -91,7 +90,7 @@ returns c =
     let p = l .before .before in
     let a = p .before .args in
     let e : l .loop2 .i ≡ a .order = omega arith in
-    let k : p .loop .k ≡ length (now (a .out)) - a .order = omega arith in
+    let k : p .loop .k ≡ length (now (a .input)) - a .order = omega arith in
     l .loop2 .inv .1 ∙ rw (e, p .loop .inv .1, k)
 
 pub silk-LPC-analysis-filter-spec : {M : Type 1} → statement M
