@@ -21,7 +21,7 @@ fn spread(word: i32, i: u32) -> i32 {
 }
 
 fn number(i: u32, word: i32) -> i32 {
-    if i < 155 { edge(i / 5, i % 5) } else { spread(word, i) }
+    if i < 160 { edge(i / 5, i % 5) } else { spread(word, i) }
 }
 
 #[allow(non_snake_case)]
@@ -72,17 +72,17 @@ fn filter_row(seed: i32, i: u32) -> i32 {
 
 fn main() {
     let mut seed = 1;
-    for i in 0..640u32 {
+    for i in 0..2048u32 {
         seed = rand(seed);
         let b32 = number(i, seed);
         println!("{}", silk_INVERSE32_varQ(b32, 47));
         println!("{}", silk_INVERSE32_varQ(b32, (i % 63) as i32));
     }
-    for i in 0..961u32 {
-        println!("{}", silk_DIV32_varQ(edge(i / 31, i % 5), edge(i % 31, i / 7 % 5), 16));
+    for i in 0..1024u32 {
+        println!("{}", silk_DIV32_varQ(edge(i / 32, i % 5), edge(i % 32, i / 7 % 5), 16));
     }
     let mut seed = 2;
-    for i in 0..640u32 {
+    for i in 0..1024u32 {
         let first = rand(seed);
         seed = rand(first);
         let (a32, b32) = (spread(first, i / 31), spread(seed, i));

@@ -13,7 +13,7 @@ fn positive(x: i32) -> i32
     if x > 1 { x } else { 1 }
 }
 
-// 2^k, with up to 2 less or more.
+// 2^k, with up to 2 less or more; from k = 31 also the largest number and its neighbour.
 pub fn edge(k: u32, by: u32) -> i32
     requires { ⌜ by < 5 ⌝ }
     ensures { λ r. ⌜ pos 1 ≤ℤ r ⌝ }
@@ -28,11 +28,11 @@ pub fn spread(word: i32, i: u32) -> i32
     positive(shift::shr32(range::abs32(word), i % 31))
 }
 
-// Argument i: first those around every power of two and the largest number, then those of a word.
+// Argument i: first those around every power of two, then those of a word.
 pub fn number(i: u32, word: i32) -> i32
     ensures { λ r. ⌜ pos 1 ≤ℤ r ⌝ }
 {
-    if i < 155 {
+    if i < 160 {
         edge(i / 5, i % 5)
     } else {
         spread(word, i)

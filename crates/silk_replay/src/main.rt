@@ -24,7 +24,7 @@ fn main() {
 // The inverse in Q 47, as the quantiser has it, and in others.
 fn inverses() {
     let mut seed = 1;
-    for i in 0..640 {
+    for i in 0..2048 {
         seed = generator::rand(seed);
         let b32 = arguments::number(i, seed);
         numbers::print(inlines::silk_INVERSE32_varQ(b32, 47));
@@ -34,9 +34,9 @@ fn inverses() {
 
 // The quotient in Q 16 of each two powers of two, or of numbers beside them.
 fn quotients_of_edges() {
-    for i in 0..961 {
-        let a32 = arguments::edge(i / 31, i % 5);
-        let b32 = arguments::edge(i % 31, i / 7 % 5);
+    for i in 0..1024 {
+        let a32 = arguments::edge(i / 32, i % 5);
+        let b32 = arguments::edge(i % 32, i / 7 % 5);
         numbers::print(inlines::silk_DIV32_varQ(a32, b32, 16));
     }
 }
@@ -44,7 +44,7 @@ fn quotients_of_edges() {
 // The quotient in Q 16, and in others, of numbers of every size.
 fn quotients_of_words() {
     let mut seed = 2;
-    for i in 0..640 {
+    for i in 0..1024 {
         let first = generator::rand(seed);
         seed = generator::rand(first);
         let a32 = arguments::spread(first, i / 31);

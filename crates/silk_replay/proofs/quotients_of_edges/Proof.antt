@@ -5,10 +5,10 @@ use Rattle.silk_replay.proofs.quotients_of_edges.Statement.{statement}
 use Rattle.silk_replay.proofs.quotients_of_edges.Tie as tie
 
 abbrev Inv-loop : tie.InvT-loop
-Inv-loop i₀ i = i ≤ 961
+Inv-loop i₀ i = i ≤ 1024
 
 abbrev μ-loop : tie.MeasureT-loop
-μ-loop i₀ i = 961 - i
+μ-loop i₀ i = 1024 - i
 
 loop-holds : tie.Need-loop-holds Inv-loop μ-loop
 loop-holds c = search needs
