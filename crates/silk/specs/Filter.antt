@@ -13,7 +13,8 @@ use Rattle.fixed.specs.Iter.{iter}
 abbrev pub tap : List ℤ → List ℤ → ℕ → ℕ → ℤ → ℤ
 tap input b ix j sum = wrap32 (sum +ℤ getD input (ix - 1 - j) (pos 0) *ℤ getD b j (pos 0))
 
--- the prediction of the input at place ix, in Q12: taps 0 to order - 1, in this order
+-- the prediction of the input at place ix, in Q12: taps 0 to order - 1, in this order.
+-- The Rust starts with the first product itself, which is that product added to 0.
 unfoldable pub prediction : List ℤ → List ℤ → ℕ → ℕ → ℤ
 prediction input b order ix = iter (tap input b ix) order (pos 0)
 

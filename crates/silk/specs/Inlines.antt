@@ -24,7 +24,8 @@ nrm x = shl32 x (headrm x)
 unfoldable pub «b32_inv» : ℤ → ℤ
 «b32_inv» «b32_nrm» = quotZ (shr (pos 2147483647) 2) (shr «b32_nrm» 16)
 
--- silk_LSHIFT_SAT32: z << s after z is held to what this leaves in 32 bits
+-- silk_LSHIFT_SAT32: z << s after z is held to what this leaves in 32 bits. The Rust's branch for a lower bound above the
+-- upper one is left out: MIN >> s is never above MAX >> s.
 unfoldable pub «lshift_SAT32» : ℤ → ℕ → ℤ
 «lshift_SAT32» z s = shl32 (clamp (shr32 (negsuc 2147483647) s) (shr32 (pos 2147483647) s) z) s
 
@@ -38,7 +39,8 @@ shifted result up down =
 unfoldable pub «err_Q32» : ℤ → ℤ → ℤ
 «err_Q32» «b32_nrm» inv = shl32 (wrap32 (pos 536870912 -ℤ smulwb «b32_nrm» (wrap16 inv))) 3
 
--- (b32_inv << 16) + (err_Q32 * b32_inv >> 16): the inverse of the normalised number, with 61 bits below the point
+-- (b32_inv << 16) + (err_Q32 * b32_inv >> 16): the inverse of the normalised number, with 61 bits below the point.
+-- The Rust adds in 64 bits and then keeps 32: the same (proofs/Laws.antt, `refined-wide`).
 unfoldable pub refined : ℤ → ℤ → ℤ
 refined «b32_nrm» inv = smlaww (shl32 inv 16) («err_Q32» «b32_nrm» inv) inv
 
