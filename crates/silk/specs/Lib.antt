@@ -1,0 +1,4 @@
+pub mod Inlines
+pub mod Gains
+pub mod Filter
+pub mod State

@@ -1,0 +1,32 @@
+-- The quantiser's state before the first frame: document 01, "What a call is given". The record is that of src/structs.rt.
+-- Assumes nothing.
+use Prim.Native.Nat.{ℕ}
+use mathlib.Core.List.{List}
+use lib.ListN.{replicate}
+use lib.IntN.{ℤ, pos}
+use Rattle.silk.specs.declared.structs.NsqState.{NsqState}
+
+-- n words of 0; shut, so that a goal does not write out 640 of them
+unfoldable pub zeros : ℕ → List ℤ
+zeros n = replicate n (pos 0)
+
+-- the lag that a fresh state holds
+unfoldable pub freshLag : ℤ
+freshLag = pos 0
+
+-- all zero but the lag above and the previous gain, which is 1 in Q16
+unfoldable pub freshState : NsqState
+freshState =
+    record {
+      xq = zeros 640;
+      «sLTP_shp_Q14» = zeros 640;
+      «sLPC_Q14» = zeros 96;
+      «sAR2_Q14» = zeros 24;
+      «sLF_AR_shp_Q14» = pos 0;
+      «sDiff_shp_Q14» = pos 0;
+      lagPrev = freshLag;
+      «sLTP_buf_idx» = pos 0;
+      «sLTP_shp_buf_idx» = pos 0;
+      «prev_gain_Q16» = pos 65536;
+      «rewhite_flag» = pos 0;
+    }
