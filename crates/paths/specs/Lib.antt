@@ -1,3 +1,4 @@
 pub mod Data
 pub mod Path
 pub mod Among
+pub mod Sample

@@ -5,4 +5,5 @@
 // large is copied at a sample: the LPC words of all paths, `[[i32; 96]; 4]`, and their five rings, `[[[i32; 40]; 5]; 4]`.
 mod among;
 mod path;
+mod sample;
 pub mod structs;

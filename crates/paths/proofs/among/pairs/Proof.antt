@@ -1,84 +1,91 @@
+-- `paths::among::pairs` meets its contract. Assumes nothing.
+use mathlib.Core.Path.{_≡_, ap, _∙_}
+use mathlib.Core.List.{List}
+use Prim.Native.Nat.{ℕ, _≤_, _-_}
+use native.Mathlib.Omega.{arith}
 use borrow.Author.Needs.{needs}
+use denote.Ref.{now}
+use lib.ListN.{replicate}
+use mir.Syntax.{w32}
+use Rattle.fixed.proofs.Fit.{back}
+use Rattle.fixed.specs.Iter.{iter}
+use Rattle.fixed.proofs.Iters.{iter-more}
+use Rattle.paths.specs.declared.structs.Candidate.{Candidate}
+use Rattle.paths.specs.Data.{word, noCandidate}
+use Rattle.paths.specs.Path.{pairs, pairTurn}
 use Rattle.paths.proofs.among.pairs.Statement.{statement}
 use Rattle.paths.proofs.among.pairs.Tie as tie
-use Rattle.paths.proofs.among.pairs.Reads as reads
-use Rattle.paths.proofs.among.pairs.Lts as lts
-use Rattle.paths.proofs.structs.Candidate.zero.Reads as zero-reads
-use Rattle.paths.proofs.structs.Path.pair.Reads as pair-reads
 
 abbrev Inv-loop : tie.InvT-loop
-Inv-loop f a s i r0 lpc ring m n c₀ k₀ c k = ?
+Inv-loop f a s i r0 lpc ring m n c₀ k₀ c k = (k ≤ n) × (c ≡ iter (pairTurn f a s i r0 m lpc ring) k c₀)
 
 abbrev μ-loop : tie.MeasureT-loop
-μ-loop f a s i r0 lpc ring m n c₀ k₀ c k = ?
+μ-loop f a s i r0 lpc ring m n c₀ k₀ c k = n - k
 
--- src/among.rt:53:9
 zero-requires : tie.Need-zero-requires Inv-loop μ-loop
 zero-requires c κs = search needs
 
--- src/among.rt:55:5
 loop-holds : tie.Need-loop-holds Inv-loop μ-loop
-loop-holds c = ?
+loop-holds c = search needs
 
--- src/among.rt:56:17
 mul-p : tie.Need-mul-p Inv-loop μ-loop
 mul-p c = search needs
 
--- src/among.rt:56:17
 element-copy-out-p : tie.Need-element-copy-out-p Inv-loop μ-loop
 element-copy-out-p c = search needs
 
--- src/among.rt:57:20
 mul-n-AR : tie.Need-mul-n-AR Inv-loop μ-loop
 mul-n-AR c = search needs
 
--- src/among.rt:57:20
 element-copy-out-n-AR : tie.Need-element-copy-out-n-AR Inv-loop μ-loop
 element-copy-out-n-AR c = search needs
 
--- src/among.rt:58:45
 mul-pair : tie.Need-mul-pair Inv-loop μ-loop
 mul-pair c = search needs
 
--- src/among.rt:58:45
 index-1-pair : tie.Need-index-1-pair Inv-loop μ-loop
 index-1-pair c = search needs
 
--- src/among.rt:58:54
 mul-pair-2 : tie.Need-mul-pair-2 Inv-loop μ-loop
 mul-pair-2 c = search needs
 
--- src/among.rt:58:54
 index-1-pair-2 : tie.Need-index-1-pair-2 Inv-loop μ-loop
 index-1-pair-2 c = search needs
 
--- src/among.rt:58:16
 pair-requires : tie.Need-pair-requires Inv-loop μ-loop
 pair-requires c κs = search needs
 
--- src/among.rt:58:9
 mul-c : tie.Need-mul-c Inv-loop μ-loop
 mul-c c = search needs
 
--- src/among.rt:58:9
 array-set-from-c : tie.Need-array-set-from-c Inv-loop μ-loop
 array-set-from-c c = search needs
 
--- src/among.rt:55:9
 add-k : tie.Need-add-k Inv-loop μ-loop
 add-k c = search needs
 
--- src/among.rt:55:5
 loop-less : tie.Need-loop-less Inv-loop μ-loop
 loop-less c = search needs
 
--- src/among.rt:55:5
 loop-again : tie.Need-loop-again Inv-loop μ-loop
-loop-again c = ?
+loop-again c =
+    let na = c .before .before .before in
+    let l = na .before .before .before in
+    let a = l .before .before .args in (
+      search needs,
+      simp (c .pair .ensures, back w32 (word (a .t1 .«n_AR_Q14») (l .loop .k)) (na .n-AR .given))
+          (iter-more (pairTurn (a .f) (now (a .a)) (a .s) (a .i) (a .r0) (a .t1) (now (a .lpc)) (now (a .ring))) _ _ _ (l .loop .inv .1)),
+    )
 
--- src/among.rt:39:1
 returns : tie.Need-returns Inv-loop μ-loop
-returns c = ?
+unfolding pairs
+returns c =
+    let l = c .before in
+    let a = l .before .before .args in
+    let turn = pairTurn (a .f) (now (a .a)) (a .s) (a .i) (a .r0) (a .t1) (now (a .lpc)) (now (a .ring)) in
+    let e : l .loop .k ≡ a .f .«nStates» = omega arith in
+    let i : l .loop .c ≡ iter turn (l .loop .k) (replicate 4 (replicate 2 noCandidate)) = simp (l .before .zero .ensures) at (l .loop .inv .1) in
+    i ∙ ap (λ (j : ℕ). iter turn j (replicate 4 (replicate 2 noCandidate))) e
 
 pub pairs-spec : {M : Type 1} → statement M
 pairs-spec =

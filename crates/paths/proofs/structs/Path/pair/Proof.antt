@@ -1,22 +1,27 @@
+-- `paths::structs::Path::pair` meets its contract. Assumes nothing.
 use borrow.Author.Needs.{needs}
+use Rattle.fixed.proofs.Fit.{read}
+use Rattle.paths.specs.Path.{pair}
+use Rattle.paths.proofs.Told.{path, common}
 use Rattle.paths.proofs.structs.Path.pair.Statement.{statement}
 use Rattle.paths.proofs.structs.Path.pair.Tie as tie
-use Rattle.paths.proofs.structs.Path.pair.Reads as reads
-use Rattle.paths.proofs.structs.Path.pair.Lts as lts
-use Rattle.paths.proofs.structs.Path.terms.Reads as terms-reads
-use Rattle.paths.proofs.structs.Terms.pair_of.Reads as pair-of-reads
 
--- src/path.rt:167:13
 terms-requires : tie.Need-terms-requires
 terms-requires c κs = search needs
 
--- src/path.rt:168:9
 pair-of-requires : tie.Need-pair-of-requires
 pair-of-requires c κs = search needs
 
--- src/path.rt:153:5
 returns : tie.Need-returns
-returns c = ?
+unfolding pair
+returns c =
+    let t = c .before .before in
+    let st = t .before .before in
+    let a = st .args in
+    let s = common (a .s) (t .struct-told .given) in
+    let p = path (a .self) (c .before .struct-told2 .given) in
+    let e = rw (read (st .fits .n-AR-Q14)) at (t .before .terms .ensures) in
+    rw (s .nLtp, p .rd, e) at (c .pair-of .ensures)
 
 pub pair-spec : {M : Type 1} → statement M
 pair-spec = tie.close (tie.spec terms-requires pair-of-requires returns)
