@@ -5,7 +5,6 @@ use Prim.Native.Nat.{ℕ, zero, suc, _+_, _-_, _*_, _/_, _%_, _^_, _≤_, _<_}
 use native.Mathlib.Omega.{arith}
 use native.Mathlib.Nat.{mod-lt, mod-eq-of-lt, add-mul-mod-self-left, div-add-mod'}
 use mathlib.Core.Path.{_≡_, refl, sym, ap, _∙_}
-use mathlib.Core.Bool.{true, false}
 use lib.IntN.{ℤ, pos, negsuc, negℤ, _+ℤ_, _-ℤ_, _*ℤ_}
 use lib.Dec.{lit<}
 use lib.Signed.{ltZ, shrZ, _≤ℤ_}
@@ -15,7 +14,6 @@ use mir.Val.{SFits}
 use Rattle.fixed.specs.Wrap.{modZ, wrap32}
 use Rattle.fixed.specs.Shift.{shr, shl32, rround}
 use Rattle.fixed.specs.Generator.{rand}
-use Rattle.fixed.specs.Iter.{either}
 use Rattle.fixed.proofs.Lin.{P, N, eq-of, add-lin, sub-lin-Z, neg-lin, shr-lin, mod-lin, le-lin, sfits-of-lin}
 use Rattle.fixed.proofs.Wraps.{turns, wrap-lin, wrap32-id}
 use Rattle.rfc6716.specs.Excitation.{«offset_Q23», sign, value, nextSeed, negates, signed, seedAfter}

@@ -1,12 +1,9 @@
 // For each of 208 Lambdas, a digest of the candidate choice over all 62465 residuals and the four entries of the offset table:
 // 52 million choices. A line has Lambda and its digest, each as eight hexadecimal digits.
 //
-// The file `stdout` beside src/ was written by the Rust, not by this program: by the lines of NSQ_del_dec.rs from
-// `q1_Q10 = r_Q10 - offset_Q10` to the order of the candidates, cut out unchanged by the oracle's `patch.py` into `choice.rs`, and its
-// table silk_Quantization_Offsets_Q10. To repeat it, build the oracle, and run this loop in Rust: k from 0 to 207, a seed that starts
-// at 0 and makes one step of the generator before each k, Lambda as in `lambda_of`; for r from -31744 to 30720 and for the table's
-// entries in order, `choice(r, offset, Lambda, &dd, &mut ss)` with all of `dd` zero; then Q_Q10 and RD_Q10 of ss[0] and of
-// ss[1] go into the digest as in `mixed`, with `wrapping_mul`; print `{:08x} {:08x}`.
+// The file `stdout` beside src/ was written by the Rust, not by this program: by oracle/choice_digest.rs, which runs the same
+// loop over the lines of NSQ_del_dec.rs, cut out unchanged by the oracle's `patch.py` into `choice.rs`, and over its offset table. That
+// file says how to repeat it.
 use choice::candidate;
 use choice::offset;
 use fixed::generator;

@@ -1,5 +1,5 @@
 -- `choice_digest::word` meets its contract. Assumes nothing.
-use Prim.Native.Nat.{ℕ, _+_, _^_, _≤_, _<_}
+use Prim.Native.Nat.{_+_, _^_, _≤_, _<_}
 use native.Mathlib.Omega.{arith}
 use lib.IntN.{ℤ, pos, negsuc, natAbs, _+ℤ_}
 use lib.Dec.{T}
@@ -8,7 +8,7 @@ use mir.Syntax.{w32, w64}
 use mir.Val.{SFits, Fits}
 use borrow.Author.Needs.{needs}
 use Rattle.fixed.proofs.Lin.{P, N, add-lin, sfits-lin, sfits-of-lin}
-use Rattle.fixed.proofs.Fit.{fit, fit32-64, read, wide32}
+use Rattle.fixed.proofs.Fit.{fit, read, wide32}
 use Rattle.choice_digest.proofs.word.Statement.{statement}
 use Rattle.choice_digest.proofs.word.Tie as tie
 
