@@ -1,23 +1,21 @@
 -- What holds of the chosen pair for every residual and offset in range and every Lambda: the two are neighbours in -32 .. 30, and
--- their costs lie between the bounds that are met (residual -31744 and -31713 at offset 32, Lambda -32768 and -32769).
+-- their costs lie in -1044180 .. 1045828. Examples.antt has a choice at either end.
 -- Assumes nothing.
-use Prim.Native.Nat.{ℕ, zero, suc, _+_, _*_, _^_, _≤_, _<_}
+use Prim.Native.Nat.{ℕ, suc, _+_, _*_, _≤_, _<_}
 use native.Mathlib.Omega.{arith}
 use native.Mathlib.Nat.{mul-le-mul, mul-le-mul-left, mul-le-mul-right}
-use mathlib.Core.Path.{_≡_, refl, sym, ap, subst, _∙_}
+use mathlib.Core.Path.{_≡_, refl, sym, ap, subst}
 use mathlib.Core.Logic.{_⊎_, inl, inr}
-use lib.IntN.{ℤ, pos, negsuc, negℤ, natAbs, _+ℤ_, _-ℤ_, _*ℤ_}
+use lib.IntN.{ℤ, pos, negsuc, natAbs, _+ℤ_, _-ℤ_, _*ℤ_}
 use lib.Dec.{lit<}
-use lib.Signed.{ltZ, shrZ, _≤ℤ_}
+use lib.Signed.{ltZ, _≤ℤ_}
 use mir.Syntax.{w32}
 use mir.Val.{SFits}
 use Rattle.fixed.specs.Wrap.{wrap16}
 use Rattle.fixed.proofs.Lin.{P, N, add-lin, sub-lin-Z, neg-lin, shr-lin, mod-lin, sfits-lin, le-of-lin, lt-true, lt-false}
 use Rattle.fixed.proofs.Wraps.{wrap16-fits}
 use Rattle.fixed.proofs.Iters.{either-all}
-use Rattle.choice.specs.declared.candidate.Choice.{Choice}
 use Rattle.choice.specs.RustChoice.{ordered, choice}
-use Rattle.choice.specs.Residual.{pulseOf}
 use Rattle.choice.specs.RuleChoice.{levelOf, lowerOf, costSum, costOf, between, ruled}
 use Rattle.choice.specs.Ranges.{InRange, Ordered, Neighbours, Costs}
 use Rattle.choice.proofs.Toward.{lower-toward}

@@ -1,8 +1,8 @@
 -- Nothing wraps in the choice, for every residual and offset in range and every Lambda.
 -- Assumes nothing.
-use Prim.Native.Nat.{ℕ, zero, suc, _+_, _*_, _^_, _≤_, _<_}
+use Prim.Native.Nat.{_+_, _*_, _^_, _≤_}
 use native.Mathlib.Omega.{arith}
-use mathlib.Core.Path.{_≡_, refl}
+use mathlib.Core.Path.{_≡_}
 use lib.IntN.{ℤ, pos, negsuc, negℤ, natAbs, _+ℤ_, _-ℤ_, _*ℤ_}
 use lib.Signed.{quotZ}
 use mir.Syntax.{w16, w32}
@@ -58,8 +58,8 @@ pub toward-range : {r o p : ℤ} → InRange r o → Toward (r -ℤ o) p → (P 
 toward-range {r} {o} h (up a b c) = let i = span-lin h in let d = sub-lin-Z r o in omega arith
 toward-range {r} {o} h (down a b c) = let i = span-lin h in let d = sub-lin-Z r o in omega arith
 
-pulse-fits : (o p : ℤ) → P p ≤ 29 + N p → N p ≤ 32 + P p → PulseFits o p
-pulse-fits o p h k =
+pulse-fits : (p : ℤ) → P p ≤ 29 + N p → N p ≤ 32 + P p → PulseFits p
+pulse-fits p h k =
     let s = times-lin 1024 p in
     let d = sub-lin-Z (p *ℤ pos 1024) (pos 80) in
     let e = add-lin (p *ℤ pos 1024) (pos 80) in
@@ -96,7 +96,7 @@ nothing-wraps r Lambda o h f =
     record {
       difference = difference-fits h;
       branch = λ e. let b = bias-lin Lambda f e in branch-fits (quotZ Lambda (pos 2) -ℤ pos 512) h (b .0) (b .1);
-      pulse = pulse-fits o p (g .0) (g .1);
+      pulse = pulse-fits p (g .0) (g .1);
       lower = level-fits r Lambda (levelOf o p) (lower-near r o h p t);
       upper = level-fits r Lambda (levelOf o (p +ℤ pos 1)) (upper-near r o h p (p +ℤ pos 1) (omega (arith, add-lin p (pos 1))) t);
     }

@@ -1,6 +1,5 @@
--- Document 01's marked examples, and its slip about the clamp, by computation.
+-- Document 01's marked examples, its slip about the clamp, and the ends of the ranges, by computation.
 -- Assumes nothing.
-use Prim.Native.Nat.{ℕ}
 use mathlib.Core.Path.{_≡_, refl}
 use mathlib.Core.List.{List, [], _∷_, map}
 use lib.IntN.{ℤ, pos, negsuc}
@@ -49,3 +48,12 @@ marked-examples = (refl, refl)
 pub sign-before-clamp : signedResidual (negsuc 0) (pos 31000) ≡ negsuc 30999
 unfolding signedResidual turned clamp wrap32 wrapTo
 sign-before-clamp = refl
+
+-- the bounds of the costs are met, and those of the pulses: the last two choices have the levels of -32 and 30
+pub bounds-are-met :
+    (choice (negsuc 31743) (negsuc 32767) (pos 32) .«first_cost» ≡ negsuc 1044179)
+    × (choice (negsuc 31712) (negsuc 32768) (pos 32) .«second_cost» ≡ pos 1045828)
+    × (choice (negsuc 31743) (pos 0) (pos 240) .«second_level» ≡ levelOf (pos 240) (negsuc 31))
+    × (choice (pos 30720) (pos 0) (pos 32) .«first_level» ≡ levelOf (pos 32) (pos 30))
+unfolding choice costed ordered withNoise tried below atMinusOne atZero above «q1_Q0» biased levelOf smulbb smlabb shl32 shr32 shr wrap32 wrap16 wrapTo
+bounds-are-met = (refl, refl, refl, refl)

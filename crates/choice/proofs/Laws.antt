@@ -1,6 +1,6 @@
--- What this crate's proofs share: a half fits, and how the fields of `Pair` are read back.
+-- What proofs share: a half fits, and how the fields of `Pair`, and of `Choice` for the crates above, are read back.
 -- Assumes nothing.
-use Prim.Native.Nat.{ℕ, suc, _+_, _/_, _^_, _≤_, _<_}
+use Prim.Native.Nat.{suc, _/_, _^_, _<_}
 use native.Mathlib.Omega.{arith}
 use mathlib.Core.Path.{_≡_}
 use lib.IntN.{ℤ, pos, negsuc, negℤ}
@@ -11,9 +11,12 @@ use denote.Laws.{valss}
 use denote.Struct.Struct.{AreAll}
 use denote.Struct.Declared.{Declared, fields}
 use denote.Struct.Laws.{Laws, spells}
-use Rattle.fixed.proofs.Lin.{P, N, neg-lin, sfits-of-lin}
+use Rattle.fixed.proofs.Lin.{neg-lin, sfits-of-lin}
 use Rattle.fixed.proofs.Fit.{back}
+use Rattle.choice.specs.declared.candidate.Choice.{Choice}
 use Rattle.choice.specs.declared.level.Pair.{Pair}
+use Rattle.choice.proofs.candidate.Choice as choice-type
+use Rattle.choice.proofs.candidate.Choice.Laws as choice-laws
 use Rattle.choice.proofs.level.Pair as pair-type
 use Rattle.choice.proofs.level.Pair.Laws as pair-laws
 
@@ -26,13 +29,14 @@ fit-halved {z = negsuc n} f =
     sfits-of-lin w32 (negℤ (pos (suc n / 2))) (omega arith) (omega arith)
 
 -- what owning a struct tells of its value
-abbrev Told : (T : Declared) → Laws T → T .D → Type 0
+abbrev pub Told : (T : Declared) → Laws T → T .D → Type 0
 Told T L x = AreAll (fields T) (T .to x) (valss (fields T) (spells (T .parts) L) (T .to x))
 
 -- the number that its bits give back
-abbrev Back : ℤ → Type 0
+abbrev pub Back : ℤ → Type 0
 Back z = toZ w32 (ofZ w32 z) ≡ z
 
+-- what `struct-told` says of a `Pair`
 pub record PairBack (x : Pair) : Type 0 where
   pub q1 : Back (x .q1)
   pub rd1 : Back (x .rd1)
@@ -42,3 +46,14 @@ pub record PairBack (x : Pair) : Type 0 where
 pub pair : (x : Pair) → Told pair-type.the-type pair-laws.the-laws x → PairBack x
 pair x t =
     record { q1 = back w32 _ (t .0 .1); rd1 = back w32 _ (t .1 .0 .1); q2 = back w32 _ (t .1 .1 .0 .1); rd2 = back w32 _ (t .1 .1 .1 .0 .1) }
+
+-- what `struct-told` says of a `Choice`
+pub record ChoiceBack (x : Choice) : Type 0 where
+  pub «first_level» : Back (x .«first_level»)
+  pub «first_cost» : Back (x .«first_cost»)
+  pub «second_level» : Back (x .«second_level»)
+  pub «second_cost» : Back (x .«second_cost»)
+
+pub chosen : (x : Choice) → Told choice-type.the-type choice-laws.the-laws x → ChoiceBack x
+chosen x t =
+    record { «first_level» = back w32 _ (t .0 .1); «first_cost» = back w32 _ (t .1 .0 .1); «second_level» = back w32 _ (t .1 .1 .0 .1); «second_cost» = back w32 _ (t .1 .1 .1 .0 .1) }

@@ -1,10 +1,10 @@
 -- How far the two levels lie from zero and from the residual, for every Lambda.
 -- Assumes nothing.
-use Prim.Native.Nat.{ℕ, zero, suc, _+_, _*_, _^_, _≤_, _<_}
+use Prim.Native.Nat.{ℕ, zero, suc, _+_, _*_, _≤_, _<_}
 use native.Mathlib.Omega.{arith}
 use mathlib.Core.Path.{_≡_}
 use mathlib.Core.Logic.{_⊎_, inl, inr, ⊎-elim}
-use lib.IntN.{ℤ, pos, negsuc, negℤ, _+ℤ_, _-ℤ_, _*ℤ_}
+use lib.IntN.{ℤ, pos, negsuc, _+ℤ_, _-ℤ_, _*ℤ_}
 use Rattle.fixed.proofs.Lin.{P, N, add-lin, sub-lin-Z, neg-lin, le-lin}
 use Rattle.choice.specs.RuleChoice.{lean, levelOf}
 use Rattle.choice.specs.Ranges.{InRange}

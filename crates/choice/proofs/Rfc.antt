@@ -5,7 +5,6 @@ use Prim.Native.Nat.{ℕ, zero, suc, _+_, _-_, _*_, _/_, _%_, _^_, _≤_, _<_}
 use native.Mathlib.Omega.{arith}
 use native.Mathlib.Nat.{mod-lt, mod-eq-of-lt, add-mul-mod-self-left, div-add-mod'}
 use mathlib.Core.Path.{_≡_, refl, sym, ap, _∙_}
-use mathlib.Core.Bool.{true, false}
 use lib.IntN.{ℤ, pos, negsuc, negℤ, _+ℤ_, _-ℤ_, _*ℤ_}
 use lib.Dec.{lit<}
 use lib.Signed.{ltZ, shrZ, _≤ℤ_}
@@ -15,10 +14,9 @@ use mir.Val.{SFits}
 use Rattle.fixed.specs.Wrap.{modZ, wrap32}
 use Rattle.fixed.specs.Shift.{shr, shl32, rround}
 use Rattle.fixed.specs.Generator.{rand}
-use Rattle.fixed.specs.Iter.{either}
-use Rattle.fixed.proofs.Lin.{P, N, eq-of, add-lin, sub-lin-Z, neg-lin, shr-lin, mod-lin, le-lin, sfits-of-lin}
-use Rattle.fixed.proofs.Wraps.{turns, wrap-lin, wrap32-id}
-use Rattle.rfc6716.specs.Excitation.{«offset_Q23», sign, value, nextSeed, negates, signed, seedAfter}
+use Rattle.fixed.proofs.Lin.{P, N, eq-of, add-lin, sub-lin-Z, neg-lin, shr-lin, mod-lin, le-lin, le-of-lin, sfits-of-lin}
+use Rattle.fixed.proofs.Wraps.{turns, wrap-lin, wrap32-id, wrap32-fits}
+use Rattle.rfc6716.specs.Excitation.{«offset_Q23», sign, value, nextSeed, negates, signed, seedAfter, Row, pulse}
 use Rattle.choice.specs.Offset.{offsetOf}
 use Rattle.choice.specs.Residual.{turned, signedExcitation, pulseOf, seedWith}
 use Rattle.choice.specs.RuleChoice.{lean, levelOf}
@@ -163,3 +161,21 @@ excitation-is-rfc seed o p f a b c d =
     sign-size (pos zero) = omega arith
     sign-size (pos (suc n)) = omega arith
     sign-size (negsuc n) = omega arith
+
+rand-fits : (seed : ℤ) → SFits w32 (rand seed)
+unfolding rand
+rand-fits seed = wrap32-fits (seed *ℤ pos 196314165 +ℤ pos 907633515)
+
+-- one sample, whole: from the same seed, pulse p leaves both with the same seed, and the excitation of its level is 64 times the
+-- value that the RFC signs with that step's seed
+pub sample-is-rfc : (seed o p : ℤ) (t : Row) → t .seed ≡ modZ seed (2 ^ 32) → pos 8 ≤ℤ o → o ≤ℤ pos 60 → negsuc 31 ≤ℤ p → p ≤ℤ pos 31
+    → (modZ (seedWith (rand seed) (levelOf (o *ℤ pos 4) p)) (2 ^ 32) ≡ pulse o p t .seed)
+    × (signedExcitation (rand seed) (levelOf (o *ℤ pos 4) p) ≡ signed (nextSeed (t .seed)) (value o p *ℤ pos 64))
+unfolding pulse
+sample-is-rfc seed o p t e a b c d =
+    let al = le-lin a in
+    let bl = le-lin b in
+    let m = times-lin 4 o in
+    let g : modZ (rand seed) (2 ^ 32) ≡ nextSeed (t .seed) = generator-is-rfc seed ∙ ap nextSeed (sym e) in
+    let q = pulse-of-level (o *ℤ pos 4) p (le-of-lin (pos 32) (o *ℤ pos 4) (omega arith)) (le-of-lin (o *ℤ pos 4) (pos 240) (omega arith)) in
+    (seed-is-rfc (rand seed) (levelOf (o *ℤ pos 4) p) ∙ rw (g, q), excitation-is-rfc (rand seed) o p (rand-fits seed) a b c d ∙ rw g)

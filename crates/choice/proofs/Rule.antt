@@ -1,27 +1,25 @@
 -- The Rust's steps and document 01's rule are the same choice, for every residual and offset in range and every Lambda.
 -- Assumes nothing.
-use Prim.Native.Nat.{ℕ, zero, suc, _+_, _*_, _^_, _≤_, _<_}
+use Prim.Native.Nat.{zero, suc, _+_, _*_, _≤_, _<_}
 use native.Mathlib.Omega.{arith}
-use mathlib.Core.Path.{_≡_, refl, sym, ap, _∙_}
+use mathlib.Core.Path.{_≡_, refl, ap, _∙_}
 use mathlib.Core.Bool.{true}
 use lib.IntN.{ℤ, pos, negsuc, negℤ, natAbs, _+ℤ_, _-ℤ_, _*ℤ_}
-use lib.Signed.{ltZ, shrZ, quotZ}
+use lib.Signed.{ltZ, quotZ}
 use mir.Syntax.{w16, w32}
 use mir.Val.{SFits}
 use Rattle.fixed.specs.Wrap.{wrap32, wrap16}
 use Rattle.fixed.specs.Shift.{shr, shl32, shr32}
 use Rattle.fixed.specs.Product.{smulbb, smlabb}
-use Rattle.fixed.specs.Iter.{either}
-use Rattle.fixed.proofs.Lin.{P, N, eq-of, add-lin, sub-lin-Z, neg-lin}
+use Rattle.fixed.proofs.Lin.{P, N, eq-of, add-lin, sub-lin-Z}
 use Rattle.fixed.proofs.Wraps.{wrap32-id, wrap16-id}
 use Rattle.fixed.proofs.Fit.{fit16-32}
 use Rattle.fixed.proofs.Iters.{either-rel}
 use Rattle.choice.specs.declared.level.Pair.{Pair}
-use Rattle.choice.specs.declared.candidate.Choice.{Choice}
-use Rattle.choice.specs.RustChoice.{biased, «q1_Q0», aboveFrom, belowFrom, above, atZero, atMinusOne, below, tried, withNoise, ordered, costed, choice}
-use Rattle.choice.specs.RuleChoice.{lean, levelOf, rounded, lowerOf, costSum, costOf, between, ruled}
-use Rattle.choice.specs.Ranges.{InRange, BranchFits, LevelFits, PulseFits, NothingWraps}
-use Rattle.choice.proofs.Near.{size, span-lin, times-lin, level-lin, lean-above, lean-down}
+use Rattle.choice.specs.RustChoice.{biased, «q1_Q0», above, atZero, atMinusOne, below, tried, withNoise, costed, choice}
+use Rattle.choice.specs.RuleChoice.{levelOf, rounded, lowerOf, costSum, costOf, between, ruled}
+use Rattle.choice.specs.Ranges.{InRange, BranchFits, LevelFits, PulseFits}
+use Rattle.choice.proofs.Near.{span-lin, times-lin, level-lin, lean-above, lean-down}
 use Rattle.choice.proofs.Exact.{nothing-wraps}
 
 -- ---- the lower pulse
@@ -60,7 +58,7 @@ priced p o Lambda =
 -- what is known where the four cases are compared
 module _ (r Lambda o : ℤ) (h : InRange r o) where
   abbrev Fits : ℤ → Type 0
-  Fits p = PulseFits o p × LevelFits r Lambda (levelOf o p) × LevelFits r Lambda (levelOf o (p +ℤ pos 1))
+  Fits p = PulseFits p × LevelFits r Lambda (levelOf o p) × LevelFits r Lambda (levelOf o (p +ℤ pos 1))
 
   -- a sum that is a level needs no wrap
   level-is : (z v : ℤ) → z ≡ v → LevelFits r Lambda v → wrap32 z ≡ v

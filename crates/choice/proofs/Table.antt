@@ -3,13 +3,12 @@
 use Prim.Native.Nat.{ℕ, zero, suc, _+_, _*_, _≤_}
 use native.Mathlib.Omega.{arith}
 use mathlib.Core.Path.{_≡_, ap, _∙_}
-use mathlib.Core.Bool.{Bool}
-use lib.IntN.{ℤ, pos, negsuc, negℤ, _-ℤ_, _*ℤ_}
+use lib.IntN.{ℤ, pos, negsuc, _-ℤ_, _*ℤ_}
 use lib.Signed.{ltZ, _≤ℤ_}
 use mir.Syntax.{w32}
 use mir.Val.{SFits}
 use Rattle.fixed.specs.Range.{clamp}
-use Rattle.fixed.proofs.Lin.{P, N, le-of-lin, lt-true, lt-false}
+use Rattle.fixed.proofs.Lin.{P, N, le-of-lin, lt-false}
 use Rattle.fixed.proofs.Iters.{either-all}
 use Rattle.rfc6716.specs.Excitation.{«offset_Q23», value}
 use Rattle.choice.specs.Offset.{offsetOf}

@@ -1,15 +1,15 @@
 -- Where the lower pulse lies: between zero and floor(q / 1024), for every Lambda. All that is known of the levels and costs follows.
 -- Assumes nothing.
-use Prim.Native.Nat.{ℕ, zero, suc, _+_, _*_, _/_, _^_, _≤_, _<_}
+use Prim.Native.Nat.{_+_, _*_, _/_, _^_, _≤_, _<_}
 use native.Mathlib.Omega.{arith}
 use mathlib.Core.Path.{_≡_}
-use mathlib.Core.Bool.{Bool, true, false}
+use mathlib.Core.Bool.{true}
 use lib.IntN.{ℤ, pos, negsuc, negℤ, _+ℤ_, _-ℤ_}
 use lib.Dec.{lit<}
 use lib.Signed.{ltZ, shrZ, quotZ}
 use mir.Syntax.{w32}
 use mir.Val.{SFits}
-use Rattle.fixed.proofs.Lin.{P, N, add-lin, sub-lin-Z, neg-lin, shr-lin, mod-lin, sfits-lin, lt-true, lt-false}
+use Rattle.fixed.proofs.Lin.{P, N, add-lin, sub-lin-Z, neg-lin, shr-lin, mod-lin, lt-true, lt-false}
 use Rattle.fixed.proofs.Iters.{either-all}
 use Rattle.choice.specs.RuleChoice.{rounded, lowerOf}
 

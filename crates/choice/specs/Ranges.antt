@@ -36,7 +36,7 @@ pub record LevelFits (r Lambda level : ℤ) : Type 0 where
   pub sum : SFits w32 (costSum Lambda r level)
 
 -- what is worked out for the lower pulse p on the way to its level
-pub record PulseFits (offset p : ℤ) : Type 0 where
+pub record PulseFits (p : ℤ) : Type 0 where
   pub scaled : SFits w32 (p *ℤ pos 1024)
   pub less : SFits w32 (p *ℤ pos 1024 -ℤ pos 80)
   pub more : SFits w32 (p *ℤ pos 1024 +ℤ pos 80)
@@ -45,7 +45,7 @@ pub record PulseFits (offset p : ℤ) : Type 0 where
 pub record NothingWraps (r Lambda offset : ℤ) : Type 0 where
   pub difference : SFits w32 (r -ℤ offset)
   pub branch : ltZ (pos 2048) Lambda ≡ true → BranchFits (r -ℤ offset) (quotZ Lambda (pos 2) -ℤ pos 512)
-  pub pulse : PulseFits offset (lowerOf (r -ℤ offset) Lambda)
+  pub pulse : PulseFits (lowerOf (r -ℤ offset) Lambda)
   pub lower : LevelFits r Lambda (levelOf offset (lowerOf (r -ℤ offset) Lambda))
   pub upper : LevelFits r Lambda (levelOf offset (lowerOf (r -ℤ offset) Lambda +ℤ pos 1))
 

@@ -1,7 +1,7 @@
 -- The candidate choice as document 01 words it, "One sample", from Level to Cost: on whole numbers, where nothing wraps. Only Lambda is
 -- read `as i16` in the cost. The value of `shrZ z 1024` is floor(z / 1024).
 -- Assumes nothing.
-use Prim.Native.Nat.{ℕ, zero, suc}
+use Prim.Native.Nat.{zero, suc}
 use lib.IntN.{ℤ, pos, negsuc, negℤ, natAbs, _+ℤ_, _-ℤ_, _*ℤ_}
 use lib.Signed.{ltZ, shrZ, quotZ}
 use Rattle.fixed.specs.Wrap.{wrap16}

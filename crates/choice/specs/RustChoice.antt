@@ -2,7 +2,7 @@
 -- to the order of the two candidates. Each step wraps as the release build does, and `as i16` stands where the Rust has it
 -- (`smulbb` and `smlabb` multiply low halves). RuleChoice has document 01's words for the same; the two are proved equal.
 -- Assumes nothing.
-use Prim.Native.Nat.{ℕ, zero, suc}
+use Prim.Native.Nat.{zero, suc}
 use lib.IntN.{ℤ, pos, negsuc, negℤ, _+ℤ_, _-ℤ_}
 use lib.Signed.{ltZ, quotZ}
 use Rattle.fixed.specs.Wrap.{wrap32}

@@ -1,13 +1,12 @@
 -- What holds of every row: one excitation word for each pulse, and a seed below 2^32.
 -- Assumes nothing.
-use Prim.Native.Nat.{ℕ, zero, suc, _+_, _^_, _≤_, _<_}
+use Prim.Native.Nat.{ℕ, suc, _+_, _^_, _<_}
 use native.Mathlib.Omega.{arith}
 use mathlib.Core.Path.{_≡_, refl, ap, _∙_}
-use mathlib.Core.List.{List, [], _∷_}
+use mathlib.Core.List.{List, []}
 use lib.IntN.{ℤ, pos, _+ℤ_}
 use lib.Dec.{lit<}
 use lib.ListN.{length, length-append}
-use Rattle.fixed.specs.Iter.{iter}
 use Rattle.fixed.proofs.Iters.{iter-keeps}
 use Rattle.fixed.proofs.Lin.{mod-lin}
 use Rattle.rfc6716.specs.Excitation.{Row, pulse, turn, excitation, nextSeed, seedAfter}

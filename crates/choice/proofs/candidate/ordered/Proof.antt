@@ -1,5 +1,4 @@
 -- `choice::candidate::ordered` meets its contract. Assumes nothing.
-use mathlib.Core.Path.{_∙_}
 use Rattle.fixed.proofs.Fit.{read, test32}
 use Rattle.choice.specs.RustChoice.{ordered}
 use Rattle.choice.proofs.candidate.ordered.Statement.{statement}

@@ -2,7 +2,7 @@
 use mathlib.Core.Path.{_≡_, refl, sym, ap, _∙_}
 use mathlib.Core.Bool.{true, false}
 use lib.IntN.{ℤ, pos, negsuc}
-use Prim.Native.Nat.{ℕ, zero, suc}
+use Prim.Native.Nat.{zero, suc}
 use native.Mathlib.Omega.{arith}
 use lib.Signed.{ltZ}
 use mir.Syntax.{w32}
@@ -10,7 +10,7 @@ use mir.Val.{toZ, ofZ}
 use borrow.Author.Needs.{needs}
 use Rattle.fixed.proofs.Fit.{read, test32, lit32}
 use Rattle.fixed.proofs.Lin.{lt-true, lt-false}
-use Rattle.choice.specs.RustChoice.{above, atZero, atMinusOne, below, tried}
+use Rattle.choice.specs.RustChoice.{above, below, tried}
 use Rattle.choice.proofs.level.tried.Statement.{statement}
 use Rattle.choice.proofs.level.tried.Tie as tie
 

@@ -3,8 +3,6 @@ use mathlib.Core.Path.{_∙_}
 use Prim.Native.Nat.{_<_}
 use lib.IntN.{pos}
 use lib.Dec.{lit<}
-use mir.Syntax.{w32}
-use mir.Val.{SFits}
 use borrow.Author.Needs.{needs}
 use Rattle.fixed.proofs.Fit.{read, got32, test32, lit32}
 use Rattle.choice.proofs.Laws.{fit-halved}
