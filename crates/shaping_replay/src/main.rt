@@ -1,0 +1,68 @@
+// Replays answers of the Rust to every public function of `shaping`: for each one a digest (FNV-1a, 64 bits) of 2000 answers,
+// and the first four of them. The arguments are made from a seed, with many words at the ends of their range.
+//
+// The file `stdout` was not made by this program. tests/rust/shaping_replay.rs makes the same arguments and answers by the
+// lines of `NSQ_del_dec.rs` (unopus 0.0.1) themselves, cut out word for word, and is built without overflow checks:
+//     rustc -O -C overflow-checks=no tests/rust/shaping_replay.rs -o shaping_replay && ./shaping_replay > crates/shaping_replay/stdout
+mod answers;
+mod digest;
+mod words;
+
+use fixed::generator;
+use fixed::range;
+use fixed::wrap;
+
+const FUNCTIONS: usize = 12;
+
+const TURNS: usize = 2000;
+
+fn main() {
+    for function in 0..FUNCTIONS {
+        replay(function);
+    }
+}
+
+// One function's line: its name, four answers and the digest of all.
+fn replay(function: usize) {
+    name(function);
+    let mut seed: i32 = 1;
+    let mut sum = digest::start();
+    for i in 0..TURNS {
+        seed = generator::rand(seed);
+        let answer = answers::answer(function, seed, i);
+        if i < 4 {
+            print(answer);
+        }
+        sum = digest::word(sum, answer);
+    }
+    io::write_all(1, b" ");
+    io::print_hex(1, sum, 16);
+    io::write_all(1, b"\n");
+}
+
+fn name(function: usize) {
+    match function {
+        0 => io::write_all(1, b"short_prediction"),
+        1 => io::write_all(1, b"ltp_prediction"),
+        2 => io::write_all(1, b"warped_filter, sum"),
+        3 => io::write_all(1, b"warped_filter, words"),
+        4 => io::write_all(1, b"n_AR"),
+        5 => io::write_all(1, b"n_LF"),
+        6 => io::write_all(1, b"harm_shape_packed"),
+        7 => io::write_all(1, b"n_LTP"),
+        8 => io::write_all(1, b"residual"),
+        9 => io::write_all(1, b"pulse_of"),
+        10 => io::write_all(1, b"xq_out8"),
+        _ => io::write_all(1, b"xq_out14"),
+    }
+    ;
+}
+
+// A space and a number. The bits of |x| are |x| also for the least number, which has no negation.
+fn print(x: i32) {
+    io::write_all(1, b" ");
+    if x < 0 {
+        io::write_all(1, b"-");
+    }
+    io::print_decimal(1, wrap::bits32(range::abs32(x)) as u64);
+}
