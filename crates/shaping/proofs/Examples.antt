@@ -3,7 +3,6 @@
 use mathlib.Core.Path.{_≡_, refl}
 use lib.IntN.{pos, negsuc}
 use Rattle.fixed.specs.Wrap.{wrapTo, wrap8, wrap32}
-use Rattle.fixed.specs.Iter.{either}
 use Rattle.fixed.specs.Range.{clamp, sat16}
 use Rattle.fixed.specs.Shift.{shr, shr32, shl32, or32, rround}
 use Rattle.fixed.specs.Product.{smulww}

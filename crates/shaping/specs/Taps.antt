@@ -3,7 +3,6 @@
 -- A pointer that is read backwards is a row and the place `at` where it stands.
 -- Assumes nothing.
 use Prim.Native.Nat.{ℕ, _+_, _-_, _/_}
-use mathlib.Core.Bool.{Bool, true, false}
 use mathlib.Core.List.{List}
 use lib.Dec.{eqb}
 use lib.IntN.{ℤ, pos}
