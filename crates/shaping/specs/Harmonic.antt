@@ -1,4 +1,4 @@
--- The harmonic noise shaping: the packed gain (`NSQ_del_dec.rs`, lines 233 to 235) and n_LTP_Q14 (lines 612 to 623).
+-- The harmonic noise shaping: the packed gain (`NSQ_del_dec.rs`, lines 233 to 235) and n_LTP_Q14 (lines 614 to 621).
 -- Assumes nothing.
 use Prim.Native.Nat.{ℕ, _-_}
 use mathlib.Core.List.{List}

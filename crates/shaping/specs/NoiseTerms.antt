@@ -1,4 +1,4 @@
--- The terms n_AR_Q14 and n_LF_Q14 of the shaped noise: `NSQ_del_dec.rs`, lines 674 to 684.
+-- The terms n_AR_Q14 and n_LF_Q14 of the shaped noise: `NSQ_del_dec.rs`, lines 674 to 683.
 -- Assumes nothing.
 use lib.IntN.{ℤ}
 use Rattle.fixed.specs.Wrap.{wrap16}

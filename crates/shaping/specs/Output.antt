@@ -1,4 +1,4 @@
--- What a coded sample hands out: `NSQ_del_dec.rs`, lines 861 to 919.
+-- What a coded sample hands out: `NSQ_del_dec.rs`, lines 861 to 921, and in the flush of the middle lines 275 to 330.
 -- Assumes nothing.
 use Prim.Native.Nat.{ℕ}
 use lib.IntN.{ℤ}

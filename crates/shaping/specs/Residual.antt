@@ -1,4 +1,4 @@
--- The residual of one sample before its sign: `NSQ_del_dec.rs`, lines 685 to 693.
+-- The residual of one sample before its sign: `NSQ_del_dec.rs`, lines 684 to 692.
 -- Assumes nothing.
 use lib.IntN.{ℤ, _+ℤ_, _-ℤ_}
 use Rattle.fixed.specs.Wrap.{wrap32}

@@ -1,9 +1,8 @@
 -- The two predictions of `NSQ_del_dec.rs`, both a sum of taps: silk_noise_shape_quantizer_short_prediction_c (lines 8 to 66)
--- and LTP_pred_Q14 (lines 590 to 607). The Rust writes the taps out one by one; here they are the turns of one loop.
+-- and LTP_pred_Q14 (lines 592 to 608). The Rust writes the taps out one by one; here they are the turns of one loop.
 -- A pointer that is read backwards is a row and the place `at` where it stands.
 -- Assumes nothing.
 use Prim.Native.Nat.{ℕ, _+_, _-_, _/_}
-use mathlib.Core.Bool.{Bool, true, false}
 use mathlib.Core.List.{List}
 use lib.Dec.{eqb}
 use lib.IntN.{ℤ, pos}

@@ -1,4 +1,4 @@
--- The warped noise-shaping filter of one path: `NSQ_del_dec.rs`, lines 638 to 673, up to the `<< 1`.
+-- The warped noise-shaping filter of one path: `NSQ_del_dec.rs`, lines 639 to 673, up to the `<< 1`.
 -- The Rust keeps two words in hand, tmp1 and tmp2, and moves two places on at each turn. Both halves of its turn do the same
 -- thing, so a turn here moves one place on, with one word in hand: `tmp` is the Rust's tmp2 at even places and its tmp1 at
 -- odd ones. `specs/WarpedPairs.antt` has the Rust's turns of two places, and the two give the same words and the same sum for

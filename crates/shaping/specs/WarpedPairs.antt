@@ -1,4 +1,4 @@
--- The warped filter in the Rust's own order of steps, two places at a turn: `NSQ_del_dec.rs`, lines 638 to 673. It is here to be
+-- The warped filter in the Rust's own order of steps, two places at a turn: `NSQ_del_dec.rs`, lines 639 to 673. It is here to be
 -- read beside the Rust: the contract cites `warpedFilter`, which is equal (proofs/WarpedPairs.antt, `warped-by-pairs`).
 -- Between two turns the Rust has tmp1 in hand: it is the `tmp` of `Filter`.
 -- Assumes nothing.

@@ -7,5 +7,6 @@ pub mod noise_terms;
 pub mod output;
 pub mod residual;
 pub mod short_prediction;
+mod start;
 mod taps;
 pub mod warped_filter;

@@ -3,6 +3,7 @@ ghost use mathlib.Core.Path.{_≡_};
 ghost use Prim.Native.Nat.{_≤_, _<_};
 ghost use lib.ListN.{length};
 ghost use Rattle.shaping.specs.Taps.{shortPrediction};
+use crate::start;
 use crate::taps;
 
 // The Rust's buf32 is `buf` from the word `at` on, read backwards: tap j takes the word at - j.
@@ -15,7 +16,7 @@ pub fn silk_noise_shape_quantizer_short_prediction(
     requires { ⌜ (15 ≤ at) × (at < 96) × (16 ≤ length (now coef)) × (order ≤ 16) ⌝ }
     ensures { λ r. ⌜ r ≡ shortPrediction (now (buf .entry)) at (now (coef .entry)) order ⌝ }
 {
-    let start = (order / 2) as i32;
+    let start = start::half_order(order);
     let ten = taps::taps(buf, at, coef, 0, 10, start);
     if order == 16 {
         taps::taps(buf, at, coef, 10, 6, ten)

@@ -3,6 +3,7 @@ ghost use mathlib.Core.Path.{_≡_};
 ghost use Prim.Native.Nat.{_≤_};
 ghost use lib.ListN.{length};
 ghost use Rattle.shaping.specs.WarpedFilter.{warpedFilter};
+use crate::start;
 use fixed::product;
 use fixed::wrap;
 
@@ -13,7 +14,7 @@ pub fn warped_filter(s: &mut [i32; 24], ar: &[i16], order: usize, warping: i16, 
     ensures sum { λ r. ⌜ r ≡ warpedFilter (now (s .entry)) (now (ar .entry)) order warping diff .«n_AR_Q14» ⌝ }
     ensures words { λ _. ⌜ now (s .exit) ≡ warpedFilter (now (s .entry)) (now (ar .entry)) order warping diff .«sAR2_Q14» ⌝ }
 {
-    let mut n = (order / 2) as i32;
+    let mut n = start::half_order(order);
     let mut tmp = product::smlawb(diff, s[0], warping);
     let mut j: usize = 0;
     while j + 1 < order {

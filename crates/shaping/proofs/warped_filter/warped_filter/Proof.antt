@@ -1,6 +1,6 @@
 -- `shaping::warped_filter::warped_filter` meets its contract. Assumes nothing.
-use Prim.Native.Nat.{_+_, _-_, _/_, _≤_}
-use mathlib.Core.Path.{_≡_, refl, ap, _∙_}
+use Prim.Native.Nat.{_+_, _-_, _≤_}
+use mathlib.Core.Path.{_≡_, ap, _∙_}
 use mathlib.Core.List.{List}
 use lib.IntN.{ℤ, pos}
 use lib.ListN.{getD}
@@ -27,8 +27,8 @@ Inv-loop s₀ ar order warping diff n₀ tmp₀ j₀ s n tmp j =
 abbrev μ-loop : tie.MeasureT-loop
 μ-loop s₀ ar order warping diff n₀ tmp₀ j₀ s n tmp j = order - j
 
-cast-n : tie.Need-cast-n Inv-loop μ-loop
-cast-n c = search needs
+half-order-requires : tie.Need-half-order-requires Inv-loop μ-loop
+half-order-requires c κs = search needs
 
 element-copy-out-smlawb : tie.Need-element-copy-out-smlawb Inv-loop μ-loop
 element-copy-out-smlawb c = search needs
@@ -39,10 +39,11 @@ smlawb-requires c κs = search needs
 loop-holds : tie.Need-loop-holds Inv-loop μ-loop
 loop-holds c =
     let p = c .before in
-    let z : SFits w32 (getD (p .before .args .s .now) 0 (pos 0)) = search needs in
+    let q = p .before in
+    let z : SFits w32 (getD (q .before .args .s .now) 0 (pos 0)) = search needs in
     let t = got32 (c .smlawb .result) (c .smlawb .ok) ∙ rw (read z) at (c .smlawb .ensures) in
-    let n = got32 (pos (p .before .args .order / 2)) (omega (arith, p .before .pre)) in
-    (omega (arith, p .before .pre), rw (t, n))
+    let n = got32 (q .half-order .result) (q .half-order .ok) ∙ q .half-order .ensures in
+    (omega (arith, q .before .pre), rw (t, n))
 
 add-loop : tie.Need-add-loop Inv-loop μ-loop
 add-loop c = search needs
@@ -97,7 +98,7 @@ loop-again c =
     let p4 = p3 .before in
     let p5 = p4 .before in
     let l = p5 .before .before .loop in
-    let a = p5 .before .before .before .before .before .args in
+    let a = p5 .before .before .before .before .before .before .args in
     let d = rw (got32 _ (p4 .sub32-arg .given)) at (p3 .sub32 .ensures) in
     let t =
     got32 (p2 .smlawb2 .result) (p2 .smlawb2 .ok)
@@ -127,7 +128,7 @@ unfolding warpedFilter
 returns c =
     let p = c .before in
     let l = p .before .before .loop in
-    let st = p .before .before .before .before .before in
+    let st = p .before .before .before .before .before .before in
     let a = st .args in
     let o : a .order - 1 ≡ l .j = omega arith in
     let n = got32 (c .smlawb4 .result) (c .smlawb4 .ok) ∙ rw (got16 _ (p .smlawb-arg4 .given)) at (c .smlawb4 .ensures) in
@@ -140,7 +141,7 @@ warped-filter-spec =
     (tie.spec
     Inv-loop
     μ-loop
-    cast-n
+    half-order-requires
     element-copy-out-smlawb
     smlawb-requires
     loop-holds
