@@ -1,9 +1,5 @@
 // Makes the file `stdout` of the crate `shaping_replay`: the same arguments, and answers by the lines of `NSQ_del_dec.rs`
-<<<<<<< HEAD
-// (unopus 0.0.1) themselves, cut out of it word for word between the marks `cut` and `end`. No line between them is ours.
-=======
 // (unopus 0.0.1) themselves, cut out of it word for word, but for the indent, between the marks `cut` and `end`.
->>>>>>> 57ce681305137586511180978067771f709c6c30
 //
 // To make the file anew, without overflow checks, as the release build is:
 //     rustc -O -C overflow-checks=no tests/rust/shaping_replay.rs -o shaping_replay && ./shaping_replay > crates/shaping_replay/stdout

@@ -1,7 +1,7 @@
 // For each of 208 Lambdas, a digest of the candidate choice over all 62465 residuals and the four entries of the offset table:
 // 52 million choices. A line has Lambda and its digest, each as eight hexadecimal digits.
 //
-// The file `stdout` beside src/ was written by the Rust, not by this program: by oracle/choice_digest.rs, which runs the same
+// The file `stdout` beside src/ was written by the Rust, not by this program: by tests/rust/choice_digest.rs, which runs the same
 // loop over the lines of NSQ_del_dec.rs, cut out unchanged by the oracle's `patch.py` into `choice.rs`, and over its offset table. That
 // file says how to repeat it.
 use choice::candidate;
