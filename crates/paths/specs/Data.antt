@@ -7,6 +7,8 @@ use lib.ListN.{getD, set}
 use lib.IntN.{ℤ, pos}
 use Rattle.paths.specs.declared.structs.Path.{Path}
 use Rattle.paths.specs.declared.structs.Candidate.{Candidate}
+use Rattle.paths.specs.declared.structs.Halves.{Halves}
+use Rattle.paths.specs.declared.structs.Work.{Work}
 
 -- word i of a row
 abbrev pub word : List ℤ → ℕ → ℤ
@@ -71,3 +73,39 @@ ringSet f r x ring = set ring f (set (getD ring f []) r x)
 -- candidate m (0 the first, 1 the second) of path k
 abbrev pub candidateAt : List (List Candidate) → ℕ → ℕ → Candidate
 candidateAt c k m = getD (getD c k []) m noCandidate
+
+-- ---- a subframe in work
+-- what two calls that count alike have in common: the paths, the work row sLTP_Q15, the delayed gains, and the ring's place smpl_buf_idx
+pub record Core : Type 0 where
+  pub ps : Paths
+  pub «sLTP_Q15» : List ℤ
+  pub «delayedGain_Q10» : List ℤ
+  pub «smpl_buf_idx» : ℕ
+
+-- and beside it the three rows in which they may differ past the delay: history, shaping words, pulses
+pub record Running : Type 0 where
+  pub core : Core
+  pub xq : List ℤ
+  pub «sLTP_shp_Q14» : List ℤ
+  pub pulses : List ℤ
+
+-- a subframe's coefficient rows (prediction, long-term prediction, shaping), and the words of which only a half is read
+pub record Rows : Type 0 where
+  pub a : List ℤ
+  pub b : List ℤ
+  pub ar : List ℤ
+  pub half : Halves
+
+-- the four together
+abbrev pub rows : List ℤ → List ℤ → List ℤ → Halves → Rows
+rows a b ar h = record { a = a; b = b; ar = ar; half = h }
+
+-- the code's struct with all rows beside it
+abbrev pub running : Work → List (List ℤ) → List (List (List ℤ)) → List ℤ → List ℤ → List ℤ → List ℤ → List ℤ → Running
+running w lpcs rings ltp dgain xq shp out =
+    record {
+      core = record { ps = paths (w .ps) lpcs rings; «sLTP_Q15» = ltp; «delayedGain_Q10» = dgain; «smpl_buf_idx» = w .«smpl_buf_idx» };
+      xq = xq;
+      «sLTP_shp_Q14» = shp;
+      pulses = out;
+    }

@@ -2,3 +2,4 @@ pub mod Data
 pub mod Path
 pub mod Among
 pub mod Sample
+pub mod Subframe

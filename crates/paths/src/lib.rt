@@ -7,3 +7,5 @@ mod among;
 mod path;
 mod sample;
 pub mod structs;
+pub mod subframe;
+mod turn;

@@ -1,0 +1,77 @@
+// A whole subframe: `silk_noise_shape_quantizer_del_dec`.
+ghost use mathlib.Core.Path.{_≡_};
+ghost use Prim.Native.Nat.{_+_, _<_, _≤_};
+ghost use lib.ListN.{length};
+ghost use Rattle.paths.specs.Data.{rows, running};
+ghost use Rattle.paths.specs.Among.{keepsFirst};
+ghost use Rattle.paths.specs.Subframe.{Fits, backed, backs as backsZ, subframe as subframeZ};
+use crate::structs::Fix;
+use crate::structs::Halves;
+use crate::structs::Work;
+use crate::turn;
+
+// The last 16 LPC words of a path, behind l samples, move to the front.
+fn moved_back(w: &mut [i32; 96], l: usize)
+    requires { ⌜ l ≤ 80 ⌝ }
+    ensures { λ _. ⌜ now (w .exit) ≡ backed l (now (w .entry)) ⌝ }
+{
+    for j in 0..16 {
+        let v = w[l + j];
+        w[j] = v;
+    }
+}
+
+// The same of n paths.
+fn backs(lpc: &mut [[i32; 96]; 4], l: usize, n: usize)
+    requires { ⌜ (l ≤ 80) × (n ≤ 4) ⌝ }
+    ensures { λ _. ⌜ now (lpc .exit) ≡ backsZ l n (now (lpc .entry)) ⌝ }
+{
+    for k in 0..n {
+        moved_back(&mut lpc[k], l);
+    }
+}
+
+// The samples of a subframe, and then the LPC words back to the front.
+pub fn silk_noise_shape_quantizer_del_dec(
+    w: Work,
+    lpc: &mut [[i32; 96]; 4],
+    ring: &mut [[[i32; 40]; 5]; 4],
+    ltp: &mut [i32; 640],
+    dgain: &mut [i32; 40],
+    xq: &mut [i16; 640],
+    shp: &mut [i32; 640],
+    pulses: &mut [i8],
+    x: &[i16],
+    a: &[i16],
+    b: &[i16],
+    ar: &[i16],
+    f: Fix,
+    h: Halves,
+) -> Work
+    requires { ⌜ (Fits f × (w .«smpl_buf_idx» < 40)) × (((16 ≤ length (now a)) × (5 ≤ length (now b))) × ((24 ≤ length (now ar)) × ((f .base + f .«subfr_length» ≤ length (now x)) × (f .base + f .«subfr_length» ≤ length (now pulses))))) ⌝ }
+    ensures { λ r. ⌜ (running r (now (lpc .exit)) (now (ring .exit)) (now (ltp .exit)) (now (dgain .exit)) (now (xq .exit)) (now (shp .exit)) (now (pulses .exit)) ≡ subframeZ keepsFirst f (rows (now (a .entry)) (now (b .entry)) (now (ar .entry)) h) (now (x .entry)) (running w (now (lpc .entry)) (now (ring .entry)) (now (ltp .entry)) (now (dgain .entry)) (now (xq .entry)) (now (shp .entry)) (now (pulses .entry)))) × (r .«smpl_buf_idx» < 40) ⌝ }
+{
+    let mut v = w;
+    let l = f.subfr_length;
+    for i in 0..l {
+        v = turn::turn(
+            v,
+            lpc,
+            ring,
+            ltp,
+            dgain,
+            xq,
+            shp,
+            pulses,
+            x,
+            a,
+            b,
+            ar,
+            f,
+            h,
+            i,
+        );
+    }
+    backs(lpc, l, f.nStates);
+    v
+}
