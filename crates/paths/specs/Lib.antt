@@ -3,3 +3,4 @@ pub mod Path
 pub mod Among
 pub mod Sample
 pub mod Subframe
+pub mod Scale

@@ -149,5 +149,6 @@ pub record Fits (f : Fix) : Type 0 where
   pub work : f .buf + f .«subfr_length» ≤ 640
   pub lagHigh : f .lag + 2 ≤ 4 * f .«subfr_length»
   pub lagLow : f .voiced ≡ true → 2 ≤ f .lag
+  pub early : f .voiced ≡ true → f .«decisionDelay» ≤ f .lag
   pub held : f .first ≡ false → f .«decisionDelay» ≤ f .base
   pub old : f .«decisionDelay» ≤ f .buf

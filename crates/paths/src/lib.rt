@@ -6,6 +6,7 @@
 mod among;
 mod path;
 mod sample;
+pub mod scale;
 pub mod structs;
 pub mod subframe;
 mod turn;
