@@ -1,0 +1,3 @@
+pub mod Call
+pub mod Flush
+pub mod Frame
