@@ -70,9 +70,13 @@ raisedPath p =
       «RD_Q10» = wrap32 (p .«RD_Q10» +ℤ penalty);
     }
 
--- path k, unless it is the winner w
+-- path k with the penalty, unless it is the winner w
+unfoldable pub otherPath : ℕ → ℕ → Path → Path
+otherPath w k p = either (eqb k w) p (raisedPath p)
+
+-- ..
 abbrev pub othersTurn : ℕ → ℕ → List Path → List Path
-othersTurn w k o = either (eqb k w) o (set o k (raisedPath (getD o k noPath)))
+othersTurn w k o = set o k (otherPath w k (getD o k noPath))
 
 -- every path but the winner gets the penalty
 unfoldable pub othersRaised : ℕ → ℕ → List Path → List Path

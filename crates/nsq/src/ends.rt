@@ -5,7 +5,7 @@ ghost use lib.ListN.{length};
 ghost use mathlib.Core.List.{List};
 ghost use lib.IntN.{ℤ};
 ghost use Rattle.fixed.specs.Iter.{either};
-ghost use Rattle.nsq.specs.Flush.{bestOf, raisedPath, othersRaised, fitMiddle, fitLast, flushed as flushedZ, outs};
+ghost use Rattle.nsq.specs.Flush.{bestOf, raisedPath, otherPath, othersRaised, fitMiddle, fitLast, flushed as flushedZ, outs};
 use fixed::shift;
 use fixed::wrap;
 use paths::structs::Path;
@@ -39,6 +39,16 @@ fn raised(p: Path) -> Path
     q
 }
 
+// Path k with the penalty, unless it is the winner w.
+fn other(p: Path, k: usize, w: usize) -> Path
+    ensures { λ r. ⌜ r ≡ otherPath w k p ⌝ }
+{
+    if k == w {
+        return p;
+    }
+    raised(p)
+}
+
 // Every path but the winner gets the penalty.
 fn others_raised(ps: [Path; 4], w: usize, n: usize) -> [Path; 4]
     requires { ⌜ n ≤ 4 ⌝ }
@@ -46,10 +56,8 @@ fn others_raised(ps: [Path; 4], w: usize, n: usize) -> [Path; 4]
 {
     let mut qs = ps;
     for k in 0..n {
-        if k != w {
-            let p = qs[k];
-            qs[k] = raised(p);
-        }
+        let p = qs[k];
+        qs[k] = other(p, k, w);
     }
     qs
 }
