@@ -120,11 +120,16 @@ middle c t =
 abbrev pub startIdx : Call → ℕ → ℕ
 startIdx c k = 4 * lengthOf c - lagOf c k - natZ (c .settings .predictLPCOrder) - 2
 
--- the filtered history, written from start_idx on into the row of 640; the words before it stay
-unfoldable pub rewhitened : Call → ℕ → List ℤ → List ℤ → List ℤ
-rewhitened c k xq row =
-    take (startIdx c k) row
-    ++ analysis (drop (startIdx c k) row) (take (4 * lengthOf c - startIdx c k) (drop (startIdx c k + k * lengthOf c) xq)) (rowsOf c k .a) (natZ (c .settings .predictLPCOrder))
+-- a row of 640 words with m words of the history from `from` on filtered into it from `start` on; the words before it stay.
+-- (The last part is what lies past the 640 words: nothing.)
+unfoldable pub rewhitened : List ℤ → List ℤ → List ℤ → ℕ → ℕ → ℕ → ℕ → List ℤ
+rewhitened row xq a order start from m =
+    take start row ++ (analysis (take (640 - start) (drop start row)) (take m (drop from xq)) a order ++ drop (640 - start) (drop start row))
+
+-- .. of subframe k, from start_idx on
+abbrev pub rewhitenedAt : Call → ℕ → List ℤ → List ℤ → List ℤ
+rewhitenedAt c k xq row =
+    rewhitened row xq (rowsOf c k .a) (natZ (c .settings .predictLPCOrder)) (startIdx c k) (startIdx c k + k * lengthOf c) (4 * lengthOf c - startIdx c k)
 
 -- the work row filled from it: lag + 2 words before 4L
 unfoldable pub refilled : Call → ℕ → List ℤ → Running → Running
@@ -148,7 +153,7 @@ whitenedWith c k t row = record { run = refilled c k row (t .run); sLTP = row; �
 
 -- ..
 unfoldable pub whitened : Call → ℕ → Framed → Framed
-whitened c k t = whitenedWith c k t (rewhitened c k (t .run .xq) (t .sLTP))
+whitened c k t = whitenedWith c k t (rewhitenedAt c k (t .run .xq) (t .sLTP))
 
 -- ---- the gain of subframe k, where it is another than before
 unfoldable pub regained : Call → ℕ → Framed → Framed

@@ -1,2 +1,3 @@
 // A whole frame of the quantiser: `silk_NSQ_del_dec_c` of NSQ_del_dec.rs.
 mod ends;
+mod white;
