@@ -88,18 +88,17 @@ start c out =
 abbrev pub outsOf : Running → Outs
 outsOf t = record { xq = t .xq; «sLTP_shp_Q14» = t .«sLTP_shp_Q14»; pulses = t .pulses }
 
--- after g samples, with winner w
-unfoldable pub flushedRun : Call → (ℤ → ℤ) → ℕ → ℕ → Running → Outs
-flushedRun c fit g w t =
-    flushed (4 * lengthOf c) (getD (t .core .ps .rings) w []) fit (delayOf c) g (t .core .«smpl_buf_idx») (outsOf t)
+-- after g samples, with winner w; n paths, length l, delay d
+unfoldable pub flushedRun : ℕ → ℕ → (ℤ → ℤ) → ℕ → ℕ → Running → Outs
+flushedRun l d fit g w t = flushed (4 * l) (getD (t .core .ps .rings) w []) fit d g (t .core .«smpl_buf_idx») (outsOf t)
 
 -- the middle flush's rows, and the penalty of every other path
-abbrev pub afterMiddle : Call → ℕ → Running → Outs → Running
-afterMiddle c w t o =
+abbrev pub afterMiddle : ℕ → ℕ → Running → Outs → Running
+afterMiddle n w t o =
     record {
       core =
           record {
-            ps = paths (othersRaised w (pathsOf c) (t .core .ps .owns)) (t .core .ps .lpcs) (t .core .ps .rings);
+            ps = paths (othersRaised w n (t .core .ps .owns)) (t .core .ps .lpcs) (t .core .ps .rings);
             «sLTP_Q15» = t .core .«sLTP_Q15»;
             «delayedGain_Q10» = t .core .«delayedGain_Q10»;
             «smpl_buf_idx» = t .core .«smpl_buf_idx»;
@@ -109,11 +108,17 @@ afterMiddle c w t o =
       pulses = o .pulses;
     }
 
--- before the second rewhitening, 2L samples done, by Gains_Q16[1]
-unfoldable pub middle : Call → Running → Running
-middle c t =
-    afterMiddle c (bestOf (t .core .ps .owns) (pathsOf c)) t
-    (flushedRun c (fitMiddle (word (c .«Gains_Q16») 1)) (2 * lengthOf c) (bestOf (t .core .ps .owns) (pathsOf c)) t)
+-- with winner w
+abbrev pub middleWith : ℕ → ℕ → ℕ → ℤ → Running → ℕ → Running
+middleWith n l d gain t w = afterMiddle n w t (flushedRun l d (fitMiddle gain) (2 * l) w t)
+
+-- before the second rewhitening, 2L samples done
+unfoldable pub middleBy : ℕ → ℕ → ℕ → ℤ → Running → Running
+middleBy n l d gain t = middleWith n l d gain t (bestOf (t .core .ps .owns) n)
+
+-- .. of the call, by Gains_Q16[1]
+abbrev pub middle : Call → Running → Running
+middle c t = middleBy (pathsOf c) (lengthOf c) (delayOf c) (word (c .«Gains_Q16») 1) t
 
 -- ---- the rewhitening of subframe k
 -- start_idx
@@ -239,7 +244,7 @@ handedOut c t p lpc o =
 unfoldable pub endedWith : Call → Framed → ℕ → Done
 endedWith c t w =
     handedOut c t (getD (t .run .core .ps .owns) w noPath) (getD (t .run .core .ps .lpcs) w [])
-    (flushedRun c (fitLast (word (c .«Gains_Q16») (countOf c - 1))) (countOf c * lengthOf c) w (t .run))
+    (flushedRun (lengthOf c) (delayOf c) (fitLast (word (c .«Gains_Q16») (countOf c - 1))) (countOf c * lengthOf c) w (t .run))
 
 -- ..
 unfoldable pub ended : Call → Framed → Done

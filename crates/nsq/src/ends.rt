@@ -15,7 +15,7 @@ use paths::structs::XQ_Q14;
 use shaping::output;
 
 // The path of least running cost, the lowest on ties.
-fn best(ps: [Path; 4], n: usize) -> usize
+pub fn best(ps: [Path; 4], n: usize) -> usize
     requires { ⌜ (0 < n) × (n ≤ 4) ⌝ }
     ensures { λ r. ⌜ (r ≡ bestOf ps n) × (r < n) ⌝ }
 {
@@ -50,7 +50,7 @@ fn other(p: Path, k: usize, w: usize) -> Path
 }
 
 // Every path but the winner gets the penalty.
-fn others_raised(ps: [Path; 4], w: usize, n: usize) -> [Path; 4]
+pub fn others_raised(ps: [Path; 4], w: usize, n: usize) -> [Path; 4]
     requires { ⌜ n ≤ 4 ⌝ }
     ensures { λ r. ⌜ r ≡ othersRaised w n ps ⌝ }
 {
@@ -74,7 +74,7 @@ fn fitted(middle: bool, gain: i32, xq: i32) -> i16
 
 // The winner's last d samples handed out, when g samples of the frame are done: h is where the frame starts in the histories,
 // r the ring's place.
-fn flushed(
+pub fn flushed(
     xq: &mut [i16; 640],
     shp: &mut [i32; 640],
     pulses: &mut [i8],
