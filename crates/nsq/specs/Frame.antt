@@ -1,5 +1,5 @@
 -- A whole frame: silk_NSQ_del_dec_c of NSQ_del_dec.rs, and document 01, "One frame". Assumes nothing.
-use Prim.Native.Nat.{ℕ, _+_, _-_, _*_, _%_}
+use Prim.Native.Nat.{ℕ, _+_, _-_, _*_}
 use mathlib.Core.Bool.{Bool, true, false}
 use mathlib.Core.List.{List, [], _∷_, _++_}
 use lib.ListN.{getD, set, take, drop, replicate}
@@ -10,12 +10,14 @@ use Rattle.silk.specs.declared.structs.NsqState.{NsqState}
 use Rattle.silk.specs.Gains.{«gain_adj_Q16»}
 use Rattle.silk.specs.Filter.{analysis}
 use Rattle.paths.specs.declared.structs.Path.{Path}
-use Rattle.paths.specs.Data.{word, noPath, Paths, paths, Core, Running, ringShape}
-use Rattle.paths.specs.Among.{Rule, Whole, whole, pathSet}
+use Rattle.paths.specs.declared.structs.Fix.{Fix}
+use Rattle.paths.specs.Data.{word, noPath, Paths, paths, Core, Running}
+use Rattle.paths.specs.Among.{Rule}
 use Rattle.paths.specs.Subframe.{subframe}
 use Rattle.paths.specs.Scale.{filled, scaled}
 use Rattle.refusals.specs.Count.{natZ, sameZ}
-use Rattle.nsq.specs.Call.{Call, lengthOf, countOf, pathsOf, lagOf, delayOf, second, rewhites, since, fixOf, rowsOf, whiteGain}
+use Rattle.nsq.specs.Call.{Call, lengthOf, countOf, pathsOf, delayOf, second, rewhites, since, fixOf, rowsOf, whiteGain}
+use Rattle.nsq.specs.Begin.{zeroPath, zeroLpcs, zeroRings, begun}
 use Rattle.nsq.specs.Flush.{bestOf, fitMiddle, fitLast, Outs, flushed, othersRaised}
 
 -- a frame in work: what a subframe works on, the filtered history, and the gain of the subframe before
@@ -24,49 +26,15 @@ pub record Framed : Type 0 where
   pub sLTP : List ℤ
   pub «prev_gain_Q16» : ℤ
 
--- with another subframe record
-abbrev pub withRun : Framed → Running → Framed
-withRun t r = record { run = r; sLTP = t .sLTP; «prev_gain_Q16» = t .«prev_gain_Q16» }
-
--- ---- the start: path k of the call
--- its short words; the seed is (k + the seed given) modulo 4
-unfoldable pub startOwn : Call → ℕ → Path
-startOwn c k =
-    record {
-      «sAR2_Q14» = c .state .«sAR2_Q14»;
-      «LF_AR_Q14» = c .state .«sLF_AR_shp_Q14»;
-      «Diff_Q14» = c .state .«sDiff_shp_Q14»;
-      «Seed» = pos ((k + natZ (c .settings .Seed)) % 4);
-      «SeedInit» = pos ((k + natZ (c .settings .Seed)) % 4);
-      «RD_Q10» = pos 0;
-    }
-
--- one word of a row that is copied
-abbrev pub copyTurn : List ℤ → ℕ → List ℤ → List ℤ
-copyTurn from j l = set l j (word from j)
-
--- its LPC words: 16 of the state's, then zeros
-unfoldable pub startLpc : List ℤ → List ℤ
-startLpc lpc = iter (copyTurn lpc) 16 (zeros 96)
-
--- its rings: zeros, but Shape_Q14[0], the last shaping word of the history
-unfoldable pub startRings : ℤ → List (List ℤ)
-startRings shape = set (replicate 5 (zeros 40)) ringShape (set (zeros 40) 0 shape)
-
--- a path of zeros
-unfoldable pub zeroPath : Path
-zeroPath =
-    record { «sAR2_Q14» = zeros 24; «LF_AR_Q14» = pos 0; «Diff_Q14» = pos 0; «Seed» = pos 0; «SeedInit» = pos 0; «RD_Q10» = pos 0 }
-
--- ..
-abbrev pub startTurn : Call → ℕ → Paths → Paths
-startTurn c k p =
-    pathSet p k (whole (startOwn c k) (startLpc (c .state .«sLPC_Q14»)) (startRings (word (c .state .«sLTP_shp_Q14») (4 * lengthOf c - 1))))
-
--- all paths of the call; the others of the four stay zero
+-- ---- the start
+-- all paths of the call begun; the others of the four stay zero
 unfoldable pub startPaths : Call → Paths
 startPaths c =
-    iter (startTurn c) (pathsOf c) (paths (replicate 4 zeroPath) (replicate 4 (zeros 96)) (replicate 4 (replicate 5 (zeros 40))))
+    begun (c .state .«sAR2_Q14») (c .state .«sLF_AR_shp_Q14») (c .state .«sDiff_shp_Q14») (c .state .«sLPC_Q14»)
+    (word (c .state .«sLTP_shp_Q14») (4 * lengthOf c - 1))
+    (natZ (c .settings .Seed))
+    (pathsOf c)
+    (paths (replicate 4 zeroPath) zeroLpcs zeroRings)
 
 -- the frame before its first subframe
 unfoldable pub start : Call → List ℤ → Framed
@@ -116,14 +84,10 @@ middleWith n l d gain t w = afterMiddle n w t (flushedRun l d (fitMiddle gain) (
 unfoldable pub middleBy : ℕ → ℕ → ℕ → ℤ → Running → Running
 middleBy n l d gain t = middleWith n l d gain t (bestOf (t .core .ps .owns) n)
 
--- .. of the call, by Gains_Q16[1]
-abbrev pub middle : Call → Running → Running
-middle c t = middleBy (pathsOf c) (lengthOf c) (delayOf c) (word (c .«Gains_Q16») 1) t
-
--- ---- the rewhitening of subframe k
+-- ---- the rewhitening of a subframe
 -- start_idx
-abbrev pub startIdx : Call → ℕ → ℕ
-startIdx c k = 4 * lengthOf c - lagOf c k - natZ (c .settings .predictLPCOrder) - 2
+abbrev pub startIdx : Fix → ℕ
+startIdx f = 4 * f .«subfr_length» - f .lag - f .predictLPCOrder - 2
 
 -- a row of 640 words with m words of the history from `from` on filtered into it from `start` on; the words before it stay.
 -- (The last part is what lies past the 640 words: nothing.)
@@ -131,19 +95,19 @@ unfoldable pub rewhitened : List ℤ → List ℤ → List ℤ → ℕ → ℕ �
 rewhitened row xq a order start from m =
     take start row ++ (analysis (take (640 - start) (drop start row)) (take m (drop from xq)) a order ++ drop (640 - start) (drop start row))
 
--- .. of subframe k, from start_idx on
-abbrev pub rewhitenedAt : Call → ℕ → List ℤ → List ℤ → List ℤ
-rewhitenedAt c k xq row =
-    rewhitened row xq (rowsOf c k .a) (natZ (c .settings .predictLPCOrder)) (startIdx c k) (startIdx c k + k * lengthOf c) (4 * lengthOf c - startIdx c k)
+-- .. of a subframe, from start_idx on
+abbrev pub rewhitenedAt : Fix → List ℤ → List ℤ → List ℤ → List ℤ
+rewhitenedAt f a xq row =
+    rewhitened row xq a (f .predictLPCOrder) (startIdx f) (startIdx f + f .base) (4 * f .«subfr_length» - startIdx f)
 
 -- the work row filled from it: lag + 2 words before 4L
-unfoldable pub refilled : Call → ℕ → List ℤ → Running → Running
-refilled c k sltp t =
+unfoldable pub refilled : Fix → ℤ → List ℤ → Running → Running
+refilled f inv sltp t =
     record {
       core =
           record {
             ps = t .core .ps;
-            «sLTP_Q15» = filled (whiteGain c k) sltp (4 * lengthOf c - lagOf c k - 2) (lagOf c k + 2) (t .core .«sLTP_Q15»);
+            «sLTP_Q15» = filled inv sltp (4 * f .«subfr_length» - f .lag - 2) (f .lag + 2) (t .core .«sLTP_Q15»);
             «delayedGain_Q10» = t .core .«delayedGain_Q10»;
             «smpl_buf_idx» = t .core .«smpl_buf_idx»;
           };
@@ -152,44 +116,56 @@ refilled c k sltp t =
       pulses = t .pulses;
     }
 
+-- what a subframe works on, with the filtered history
+pub record Whitened : Type 0 where
+  pub run : Running
+  pub sLTP : List ℤ
+
 -- both, with the new row in hand
-abbrev pub whitenedWith : Call → ℕ → Framed → List ℤ → Framed
-whitenedWith c k t row = record { run = refilled c k row (t .run); sLTP = row; «prev_gain_Q16» = t .«prev_gain_Q16» }
+abbrev pub whitenedWith : Fix → ℤ → Running → List ℤ → Whitened
+whitenedWith f inv t row = record { run = refilled f inv row t; sLTP = row }
 
 -- ..
-unfoldable pub whitened : Call → ℕ → Framed → Framed
-whitened c k t = whitenedWith c k t (rewhitenedAt c k (t .run .xq) (t .sLTP))
+unfoldable pub whitened : Fix → List ℤ → ℤ → Running → List ℤ → Whitened
+whitened f a inv t sltp = whitenedWith f inv t (rewhitenedAt f a (t .xq) sltp)
 
--- ---- the gain of subframe k, where it is another than before
-unfoldable pub regained : Call → ℕ → Framed → Framed
-regained c k t =
-    either (sameZ (word (c .«Gains_Q16») k) (t .«prev_gain_Q16»)) t
-    (record {
-      run = scaled (fixOf c k) (rewhites c k) («gain_adj_Q16» (t .«prev_gain_Q16») (word (c .«Gains_Q16») k)) (t .run);
-      sLTP = t .sLTP;
-      «prev_gain_Q16» = word (c .«Gains_Q16») k;
-    })
+-- ---- the gain, where it is another than before; where it is the same, nothing changes
+unfoldable pub regained : Fix → Bool → ℤ → Running → Running
+regained f rewhite prev t =
+    either (sameZ (f .«Gain_Q16») prev) t (scaled f rewhite («gain_adj_Q16» prev (f .«Gain_Q16»)) t)
 
--- ---- subframe k
+-- ---- before the samples of a subframe
 -- the flush, if this is the second rewhitening
-unfoldable pub flushedBefore : Call → ℕ → Framed → Framed
-flushedBefore c k t = either (second c k) (withRun t (middle c (t .run))) t
+unfoldable pub flushedFirst : Bool → Fix → ℤ → Running → Running
+flushedFirst again f gain1 t = either again (middleBy (f .nStates) (f .«subfr_length») (f .decisionDelay) gain1 t) t
 
 -- the rewhitening, if there is one
-unfoldable pub whitenedBefore : Call → ℕ → Framed → Framed
-whitenedBefore c k t = either (rewhites c k) (whitened c k t) t
+unfoldable pub whitenedFirst : Bool → Fix → List ℤ → ℤ → Running → List ℤ → Whitened
+whitenedFirst rewhite f a inv t sltp = either rewhite (whitened f a inv t sltp) (record { run = t; sLTP = sltp })
 
--- all that comes before its samples
-unfoldable pub before : Call → ℕ → Framed → Framed
-before c k t = regained c k (whitenedBefore c k (flushedBefore c k t))
+-- the change of gain after that
+abbrev pub regainedLast : Bool → Fix → ℤ → Whitened → Whitened
+regainedLast rewhite f prev w = record { run = regained f rewhite prev (w .run); sLTP = w .sLTP }
 
--- its samples
-unfoldable pub coded : Rule → Call → List ℤ → ℕ → Framed → Framed
-coded rule c x k t = withRun t (subframe rule (fixOf c k) (rowsOf c k) x (t .run))
+-- all three
+unfoldable pub before : Bool → Bool → Fix → List ℤ → ℤ → ℤ → ℤ → Running → List ℤ → Whitened
+before again rewhite f a gain1 inv prev t sltp =
+    regainedLast rewhite f prev (whitenedFirst rewhite f a inv (flushedFirst again f gain1 t) sltp)
 
--- one subframe, all subframes
+-- .. of subframe k
+unfoldable pub beforeOf : Call → ℕ → Framed → Whitened
+beforeOf c k t =
+    before (second c k) (rewhites c k) (fixOf c k) (rowsOf c k .a) (word (c .«Gains_Q16») 1) (whiteGain c k) (t .«prev_gain_Q16») (t .run) (t .sLTP)
+
+-- ---- a subframe, all subframes
+-- its samples; its gain is now the gain before
+unfoldable pub coded : Rule → Call → List ℤ → ℕ → Whitened → Framed
+coded rule c x k w =
+    record { run = subframe rule (fixOf c k) (rowsOf c k) x (w .run); sLTP = w .sLTP; «prev_gain_Q16» = word (c .«Gains_Q16») k }
+
+-- subframe k
 unfoldable pub subframeTurn : Rule → Call → List ℤ → ℕ → Framed → Framed
-subframeTurn rule c x k t = coded rule c x k (before c k t)
+subframeTurn rule c x k t = coded rule c x k (beforeOf c k t)
 
 -- ..
 unfoldable pub run : Rule → Call → List ℤ → List ℤ → Framed

@@ -1,3 +1,4 @@
 pub mod Call
+pub mod Begin
 pub mod Flush
 pub mod Frame
