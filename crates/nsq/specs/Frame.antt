@@ -1,5 +1,5 @@
 -- A whole frame: silk_NSQ_del_dec_c of NSQ_del_dec.rs, and document 01, "One frame". Assumes nothing.
-use Prim.Native.Nat.{ℕ, _+_, _-_, _*_}
+use Prim.Native.Nat.{ℕ, _+_, _-_, _*_, _<_}
 use mathlib.Core.Bool.{Bool, true, false}
 use mathlib.Core.List.{List, [], _∷_, _++_}
 use lib.ListN.{getD, set, take, drop, replicate}
@@ -87,7 +87,11 @@ middleBy n l d gain t = middleWith n l d gain t (bestOf (t .core .ps .owns) n)
 -- ---- the rewhitening of a subframe
 -- start_idx
 abbrev pub startIdx : Fix → ℕ
-startIdx f = 4 * f .«subfr_length» - f .lag - f .predictLPCOrder - 2
+startIdx f = 4 * f .«subfr_length» - f .lag - 2 - f .predictLPCOrder
+
+-- there is room for it in the history of 4L words: start_idx is above 0
+pub record Room (f : Fix) : Type 0 where
+  pub room : f .lag + f .predictLPCOrder + 2 < 4 * f .«subfr_length»
 
 -- a row of 640 words with m words of the history from `from` on filtered into it from `start` on; the words before it stay.
 -- (The last part is what lies past the 640 words: nothing.)

@@ -2,5 +2,6 @@
 mod begin;
 mod ends;
 mod middle;
+mod regain;
 mod tail;
 mod white;

@@ -1,8 +1,12 @@
 // The rewhitening of a voiced subframe: the filtered history, and the work row filled from it.
 ghost use mathlib.Core.Path.{_≡_};
-ghost use Prim.Native.Nat.{_+_, _-_, _<_, _≤_};
+ghost use Prim.Native.Nat.{_+_, _-_, _*_, _<_, _≤_};
+ghost use Rattle.paths.specs.Scale.{filled};
+ghost use Rattle.paths.specs.Subframe.{Fits};
 ghost use lib.ListN.{length};
-ghost use Rattle.nsq.specs.Frame.{rewhitened as rewhitenedZ};
+ghost use Rattle.nsq.specs.Frame.{rewhitened as rewhitenedZ, rewhitenedAt, Room};
+use paths::scale;
+use paths::structs::Fix;
 use silk::lpc_analysis_filter;
 
 // The history from `from` on, m words, filtered into the row from `start` on; the words before stay.
@@ -22,4 +26,27 @@ fn rewhitened(
     let end = from + m;
     lpc_analysis_filter::silk_LPC_analysis_filter(&mut r[start..], &xq[from..end], a, order);
     r
+}
+
+// The rewhitening of a subframe: the filtered history comes back, and the work row is filled from it, times inv.
+pub fn whitened(
+    ltp: &mut [i32; 640],
+    sltp: [i16; 640],
+    xq: [i16; 640],
+    a: &[i16],
+    f: Fix,
+    inv: i32,
+) -> [i16; 640]
+    requires { ⌜ (Fits f × Room f) × (f .predictLPCOrder ≤ length (now a)) ⌝ }
+    ensures row { λ r. ⌜ r ≡ rewhitenedAt f (now (a .entry)) xq sltp ⌝ }
+    ensures work { λ r. ⌜ now (ltp .exit) ≡ filled inv (rewhitenedAt f (now (a .entry)) xq sltp) (4 * f .«subfr_length» - f .lag - 2) (f .lag + 2) (now (ltp .entry)) ⌝ }
+{
+    let end = 4 * f.subfr_length;
+    let order = f.predictLPCOrder;
+    let first = end - f.lag - 2;
+    let start = first - order;
+    let from = start + f.base;
+    let row = rewhitened(sltp, xq, a, order, start, from, end - start);
+    scale::filled(ltp, &row, inv, first, f.lag + 2);
+    row
 }
