@@ -5,8 +5,10 @@ ghost use lib.ListN.{length};
 ghost use mathlib.Core.List.{List};
 ghost use lib.IntN.{ℤ};
 ghost use Rattle.paths.specs.Data.{running};
-ghost use Rattle.nsq.specs.Frame.{middleBy};
+ghost use Rattle.paths.specs.Subframe.{Fits};
+ghost use Rattle.nsq.specs.Frame.{middleBy, flushedFirst};
 use crate::ends;
+use paths::structs::Fix;
 use paths::structs::Work;
 
 // The winner's last d samples handed out after 2 * l samples, by the gain of subframe 1; every other path gets the penalty.
@@ -34,4 +36,27 @@ fn middle(
         ps: qs,
         smpl_buf_idx: r,
     }
+}
+
+// The flush, if this is the second rewhitening.
+pub fn flushed_first(
+    again: bool,
+    w: Work,
+    ring: &[[[i32; 40]; 5]; 4],
+    xq: &mut [i16; 640],
+    shp: &mut [i32; 640],
+    pulses: &mut [i8],
+    f: Fix,
+    gain1: i32,
+) -> Work
+    requires { ⌜ (Fits f × (f .decisionDelay ≤ 2 * f .«subfr_length»)) × ((2 * f .«subfr_length» ≤ length (now pulses)) × (w .«smpl_buf_idx» < 40)) ⌝ }
+    ensures { λ r. ⌜ ((lpcs : List (List ℤ)) (ltp dgain : List ℤ) → running r lpcs (now (ring .entry)) ltp dgain (now (xq .exit)) (now (shp .exit)) (now (pulses .exit)) ≡ flushedFirst again f gain1 (running w lpcs (now (ring .entry)) ltp dgain (now (xq .entry)) (now (shp .entry)) (now (pulses .entry)))) × (r .«smpl_buf_idx» ≡ w .«smpl_buf_idx») ⌝ }
+{
+    if again {
+        let n = f.nStates;
+        let l = f.subfr_length;
+        let d = f.decisionDelay;
+        return middle(w, ring, xq, shp, pulses, n, l, d, gain1);
+    }
+    w
 }

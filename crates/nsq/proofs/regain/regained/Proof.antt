@@ -12,13 +12,13 @@ use Rattle.nsq.proofs.regain.regained.Tie as tie
 
 returns : tie.Need-returns
 unfolding regained
-returns c = 
+returns c =
     let st = c .before .before .before in
     let g : SFits w32 (st .args .f .«Gain_Q16») = record { sfits = c .before .struct-told .given .1 .1 .1 .1 .1 .1 .1 .1 .1 .0 .1 } in
     (λ dgain xq out. rw (same-yes g (st .fits .prev) (c .if1 .taken)), refl)
 
 gain-adj-Q16-requires : tie.Need-gain-adj-Q16-requires
-gain-adj-Q16-requires c κs = 
+gain-adj-Q16-requires c κs =
     let st = c .before .before .before .before in
     let f = fix (st .args .f) (c .struct-told2 .given) in
     rw (read (st .fits .prev), f .gain) (st .pre .1 .0, st .pre .1 .1)
@@ -28,7 +28,7 @@ silk-nsq-del-dec-scale-states-requires c κs = search needs
 
 returns-2 : tie.Need-returns-2
 unfolding regained
-returns-2 c = 
+returns-2 c =
     let ga = c .before .before .before .before .before in
     let el = ga .before .before in
     let st = el .before .before .before in

@@ -41,7 +41,7 @@ returns : tie.Need-returns
 unfolding rewhitened
 returns c =
     let f = c .before in
-    let a = f .before .before .before .before .args in
+    let a = f .before .before .before .args in
     let e : a .from + a .m - a .from ≡ a .m = omega arith in
     rw (rw e at (f .silk-LPC-analysis-filter .ensures))
 

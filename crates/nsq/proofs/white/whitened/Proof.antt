@@ -34,7 +34,7 @@ filled-requires : tie.Need-filled-requires
 filled-requires c κs = search needs
 
 returns : tie.Need-returns
-returns c = 
+returns c =
     let p = c .before .before .before .before in
     let st = p .before .before .before .before in
     (p .rewhitened .ensures, rw (read (st .fits .inv), p .rewhitened .ensures) at (c .filled .ensures))
