@@ -125,6 +125,10 @@ pub record Whitened : Type 0 where
   pub run : Running
   pub sLTP : List ℤ
 
+-- the two together
+abbrev pub whitenedOf : Running → List ℤ → Whitened
+whitenedOf t row = record { run = t; sLTP = row }
+
 -- both, with the new row in hand
 abbrev pub whitenedWith : Fix → ℤ → Running → List ℤ → Whitened
 whitenedWith f inv t row = record { run = refilled f inv row t; sLTP = row }

@@ -1,4 +1,5 @@
 // A whole frame of the quantiser: `silk_NSQ_del_dec_c` of NSQ_del_dec.rs.
+mod before;
 mod begin;
 mod ends;
 mod middle;

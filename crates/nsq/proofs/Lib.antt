@@ -1,0 +1,2 @@
+-- Befores: the steps before a subframe's samples, put together.
+pub mod Befores
