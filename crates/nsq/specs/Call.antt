@@ -1,7 +1,9 @@
 -- A call, and what the frame reads off it: the top of silk_NSQ_del_dec_c of NSQ_del_dec.rs and document 01, "One frame". The Rust's counters
--- (subfr, sLTP_buf_idx, sLTP_shp_buf_idx, rewhite_flag, lag) are functions of the call and of the subframe's number k. Assumes nothing.
-use Prim.Native.Nat.{ℕ, _+_, _-_, _*_, _/_, min}
-use mathlib.Core.Bool.{Bool, true, false, not, _&&_}
+-- (subfr, sLTP_buf_idx, sLTP_shp_buf_idx, rewhite_flag, lag) are functions of the call and of the subframe's number k. The frame goes by `Given`: the
+-- settings of an accepted call, turned once into counts. Assumes nothing.
+use Prim.Native.Nat.{ℕ, _+_, _-_, _*_, _/_, _≤_, _<_, min}
+use mathlib.Core.Path.{_≡_}
+use mathlib.Core.Bool.{Bool, true, not, _&&_}
 use mathlib.Core.List.{List}
 use lib.ListN.{take, drop}
 use lib.IntN.{ℤ, pos}
@@ -16,6 +18,7 @@ use Rattle.paths.specs.declared.structs.Fix.{Fix}
 use Rattle.paths.specs.declared.structs.Halves.{Halves}
 use Rattle.paths.specs.Data.{word, Rows, rows}
 use Rattle.refusals.specs.Count.{natZ, sameZ}
+use Rattle.nsq.specs.declared.call.Given.{Given}
 
 -- all that a call is given but its samples and the row for its pulses
 pub record Call : Type 0 where
@@ -30,97 +33,196 @@ pub record Call : Type 0 where
   pub «Gains_Q16» : List ℤ
   pub pitchL : List ℤ
 
--- L, the subframe length
-abbrev pub lengthOf : Call → ℕ
-lengthOf c = natZ (c .settings .«subfr_length»)
+-- ---- what is given, as counts
+-- is the frame voiced? By signalType
+unfoldable pub voicedBy : ℤ → Bool
+voicedBy kind = sameZ kind (pos 2)
 
--- n, the subframe count
-abbrev pub countOf : Call → ℕ
-countOf c = natZ (c .settings .«nb_subfr»)
-
--- how many paths
-abbrev pub pathsOf : Call → ℕ
-pathsOf c = natZ (c .settings .nStatesDelayedDecision)
-
--- is the frame voiced?
-unfoldable pub voiced : Call → Bool
-voiced c = sameZ (c .settings .signalType) (pos 2)
-
--- LSF_interpolation_flag
-unfoldable pub interpolated : Call → Bool
-interpolated c = not (sameZ (c .settings .«NLSFInterpCoef_Q2») (pos 4))
-
--- the lag of subframe k: of the row in a voiced frame, else lagPrev
-unfoldable pub lagOf : Call → ℕ → ℕ
-lagOf c k = either (voiced c) (natZ (word (c .pitchL) k)) (natZ (c .state .lagPrev))
+-- LSF_interpolation_flag, by NLSFInterpCoef_Q2
+unfoldable pub interpolatedBy : ℤ → Bool
+interpolatedBy interp = not (sameZ interp (pos 4))
 
 -- D is lowered to lag - 3
-abbrev pub lowered : ℕ → ℕ → ℕ
+unfoldable pub lowered : ℕ → ℕ → ℕ
 lowered d lag = min d (lag - 3)
 
 -- by lag k of the row
 abbrev pub delayTurn : List ℤ → ℕ → ℕ → ℕ
 delayTurn lags k d = lowered d (natZ (word lags k))
 
+-- D in a voiced frame: by each of the n lags
+unfoldable pub voicedDelay : ℕ → ℕ → List ℤ → ℕ
+voicedDelay l n lags = iter (delayTurn lags) n (min 40 l)
+
+-- D in another frame: by lagPrev, where it is not 0
+unfoldable pub quietDelay : ℕ → ℕ → ℕ
+quietDelay l lagPrev = either (ltb 0 lagPrev) (lowered (min 40 l) lagPrev) (min 40 l)
+
 -- D, the decision delay
-unfoldable pub delayOf : Call → ℕ
-delayOf c =
-    either (voiced c) (iter (delayTurn (c .pitchL)) (countOf c) (min 40 (lengthOf c)))
-    (either (ltb 0 (natZ (c .state .lagPrev))) (lowered (min 40 (lengthOf c)) (natZ (c .state .lagPrev))) (min 40 (lengthOf c)))
+unfoldable pub delayBy : Bool → ℕ → ℕ → ℕ → List ℤ → ℕ
+delayBy voiced l n lagPrev lags = either voiced (voicedDelay l n lags) (quietDelay l lagPrev)
+
+-- the settings, the state's lagPrev and the lags, turned into counts
+unfoldable pub givenBy : Settings → ℤ → List ℤ → Given
+givenBy s lagPrev lags =
+    record {
+      «subfr_length» = natZ (s .«subfr_length»);
+      «nb_subfr» = natZ (s .«nb_subfr»);
+      predictLPCOrder = natZ (s .predictLPCOrder);
+      shapingLPCOrder = natZ (s .shapingLPCOrder);
+      nStates = natZ (s .nStatesDelayedDecision);
+      voiced = voicedBy (s .signalType);
+      interpolated = interpolatedBy (s .«NLSFInterpCoef_Q2»);
+      «offset_Q10» = offsetOf (natZ (s .signalType)) (natZ (s .quantOffsetType));
+      «Lambda_Q10» = s .«Lambda_Q10»;
+      «LTP_scale_Q14» = s .«LTP_scale_Q14»;
+      «warping_Q16» = s .«warping_Q16»;
+      seed = natZ (s .Seed);
+      lagPrev = natZ lagPrev;
+      delay = delayBy (voicedBy (s .signalType)) (natZ (s .«subfr_length»)) (natZ (s .«nb_subfr»)) (natZ lagPrev) lags;
+    }
+
+-- of a call
+abbrev pub givenOf : Call → Given
+givenOf c = givenBy (c .settings) (c .state .lagPrev) (c .pitchL)
+
+-- L, the subframe length
+abbrev pub lengthOf : Call → ℕ
+lengthOf c = givenOf c .«subfr_length»
+
+-- n, the subframe count
+abbrev pub countOf : Call → ℕ
+countOf c = givenOf c .«nb_subfr»
+
+-- how many paths
+abbrev pub pathsOf : Call → ℕ
+pathsOf c = givenOf c .nStates
+
+-- is the frame voiced?
+abbrev pub voiced : Call → Bool
+voiced c = givenOf c .voiced
+
+-- LSF_interpolation_flag
+abbrev pub interpolated : Call → Bool
+interpolated c = givenOf c .interpolated
+
+-- D, the decision delay
+abbrev pub delayOf : Call → ℕ
+delayOf c = givenOf c .delay
+
+-- ---- where subframe k stands, by what is given and then of a call
+-- the lag of subframe k: of the row in a voiced frame, else lagPrev
+unfoldable pub lagBy : Given → List ℤ → ℕ → ℕ
+lagBy g lags k = either (g .voiced) (natZ (word lags k)) (g .lagPrev)
+
+-- ..
+abbrev pub lagOf : Call → ℕ → ℕ
+lagOf c k = lagBy (givenOf c) (c .pitchL) k
+
+-- is a frame's second half rewhitened too?
+unfoldable pub twiceBy : Given → Bool
+twiceBy g = g .voiced && g .interpolated
 
 -- is subframe k the second one to be rewhitened, with the flush before it?
-unfoldable pub second : Call → ℕ → Bool
-second c k = (voiced c && interpolated c) && eqb k 2
+unfoldable pub secondBy : Given → ℕ → Bool
+secondBy g k = twiceBy g && eqb k 2
+
+-- ..
+abbrev pub second : Call → ℕ → Bool
+second c k = secondBy (givenOf c) k
 
 -- is subframe k rewhitened?
-unfoldable pub rewhites : Call → ℕ → Bool
-rewhites c k = either (eqb k 0) (voiced c) (second c k)
+unfoldable pub rewhitesBy : Given → ℕ → Bool
+rewhitesBy g k = either (eqb k 0) (g .voiced) (secondBy g k)
+
+-- ..
+abbrev pub rewhites : Call → ℕ → Bool
+rewhites c k = rewhitesBy (givenOf c) k
 
 -- subframes since output was last held back: the Rust's subfr
-unfoldable pub since : Call → ℕ → ℕ
-since c k = either ((voiced c && interpolated c) && leb 2 k) (k - 2) k
+unfoldable pub sinceBy : Given → ℕ → ℕ
+sinceBy g k = either (twiceBy g && leb 2 k) (k - 2) k
+
+-- ..
+abbrev pub since : Call → ℕ → ℕ
+since c k = sinceBy (givenOf c) k
 
 -- which row of prediction coefficients: row 1 for all, or row k >> 1
-unfoldable pub rowOf : Call → ℕ → ℕ
-rowOf c k = either (interpolated c) (k / 2) 1
+unfoldable pub rowBy : Given → ℕ → ℕ
+rowBy g k = either (g .interpolated) (k / 2) 1
 
--- the scalars of subframe k
-unfoldable pub fixOf : Call → ℕ → Fix
-fixOf c k =
+-- ..
+abbrev pub rowOf : Call → ℕ → ℕ
+rowOf c k = rowBy (givenOf c) k
+
+-- ---- what subframe k works with
+-- its scalars, by what is given and the rows of lags, of LF_shp_Q14 and of gains
+unfoldable pub fixBy : Given → List ℤ → List ℤ → List ℤ → ℕ → Fix
+fixBy g lags lf gains k =
     record {
-      «subfr_length» = lengthOf c;
-      predictLPCOrder = natZ (c .settings .predictLPCOrder);
-      shapingLPCOrder = natZ (c .settings .shapingLPCOrder);
-      nStates = pathsOf c;
-      voiced = voiced c;
-      «offset_Q10» = offsetOf (natZ (c .settings .signalType)) (natZ (c .settings .quantOffsetType));
-      «Lambda_Q10» = c .settings .«Lambda_Q10»;
-      lag = lagOf c k;
-      «LF_shp_Q14» = word (c .«LF_shp_Q14») k;
-      «Gain_Q16» = word (c .«Gains_Q16») k;
-      «inv_gain_Q26» = «inv_gain_Q26» («inv_gain_Q31» (word (c .«Gains_Q16») k));
-      decisionDelay = delayOf c;
-      base = k * lengthOf c;
-      buf = 4 * lengthOf c + since c k * lengthOf c;
-      first = eqb (since c k) 0;
+      «subfr_length» = g .«subfr_length»;
+      predictLPCOrder = g .predictLPCOrder;
+      shapingLPCOrder = g .shapingLPCOrder;
+      nStates = g .nStates;
+      voiced = g .voiced;
+      «offset_Q10» = g .«offset_Q10»;
+      «Lambda_Q10» = g .«Lambda_Q10»;
+      lag = lagBy g lags k;
+      «LF_shp_Q14» = word lf k;
+      «Gain_Q16» = word gains k;
+      «inv_gain_Q26» = «inv_gain_Q26» («inv_gain_Q31» (word gains k));
+      decisionDelay = g .delay;
+      base = k * g .«subfr_length»;
+      buf = 4 * g .«subfr_length» + sinceBy g k * g .«subfr_length»;
+      first = eqb (sinceBy g k) 0;
     }
 
--- the words of subframe k of which a half is read
-unfoldable pub halvesOf : Call → ℕ → Halves
-halvesOf c k =
+-- ..
+abbrev pub fixOf : Call → ℕ → Fix
+fixOf c k = fixBy (givenOf c) (c .pitchL) (c .«LF_shp_Q14») (c .«Gains_Q16») k
+
+-- its words of which a half is read, by the rows of Tilt_Q14 and of HarmShapeGain_Q14
+unfoldable pub halvesBy : Given → List ℤ → List ℤ → ℕ → Halves
+halvesBy g tilt harm k =
     record {
-      «warping_Q16» = c .settings .«warping_Q16»;
-      «Tilt_Q14» = word (c .«Tilt_Q14») k;
-      «HarmShapeFIRPacked_Q14» = packedGain (word (c .«HarmShapeGain_Q14») k);
+      «warping_Q16» = g .«warping_Q16»;
+      «Tilt_Q14» = word tilt k;
+      «HarmShapeFIRPacked_Q14» = packedGain (word harm k);
     }
 
--- the rows of subframe k: 16 prediction coefficients, 5 of long-term prediction, 24 of shaping
+-- ..
+abbrev pub halvesOf : Call → ℕ → Halves
+halvesOf c k = halvesBy (givenOf c) (c .«Tilt_Q14») (c .«HarmShapeGain_Q14») k
+
+-- its rows: 16 prediction coefficients, 5 of long-term prediction, 24 of shaping
 unfoldable pub rowsOf : Call → ℕ → Rows
 rowsOf c k =
     rows (take 16 (drop (rowOf c k * 16) (c .«PredCoef_Q12»))) (take 5 (drop (k * 5) (c .«LTPCoef_Q14»))) (take 24 (drop (k * 24) (c .«AR_Q13»))) (halvesOf c k)
 
--- what a rewhitened work row is multiplied by: with the LTP scale at subframe 0 only
-unfoldable pub whiteGain : Call → ℕ → ℤ
-whiteGain c k =
-    either (eqb k 0) («ltp_scaled_inv_gain» («inv_gain_Q31» (word (c .«Gains_Q16») k)) (c .settings .«LTP_scale_Q14»))
-    («inv_gain_Q31» (word (c .«Gains_Q16») k))
+-- what a rewhitened work row is multiplied by, by the gain: with the LTP scale at subframe 0 only
+unfoldable pub whiteBy : Given → ℤ → ℕ → ℤ
+whiteBy g gain k =
+    either (eqb k 0) («ltp_scaled_inv_gain» («inv_gain_Q31» gain) (g .«LTP_scale_Q14»)) («inv_gain_Q31» gain)
+
+-- ..
+abbrev pub whiteGain : Call → ℕ → ℤ
+whiteGain c k = whiteBy (givenOf c) (word (c .«Gains_Q16») k) k
+
+-- ---- what is known of what is given, where the call was good: facts on counts that follow from the settings' own limits
+pub record Sound (g : Given) (lags : List ℤ) : Type 0 where
+  pub long : 40 ≤ g .«subfr_length»
+  pub short : g .«subfr_length» ≤ 80
+  pub some : 2 ≤ g .«nb_subfr»
+  pub few : g .«nb_subfr» ≤ 4
+  pub order10 : 10 ≤ g .predictLPCOrder
+  pub order16 : g .predictLPCOrder ≤ 16
+  pub shaping2 : 2 ≤ g .shapingLPCOrder
+  pub shaping24 : g .shapingLPCOrder ≤ 24
+  pub paths1 : 0 < g .nStates
+  pub paths4 : g .nStates ≤ 4
+  pub seed3 : g .seed ≤ 3
+  pub delay40 : g .delay ≤ 40
+  pub delayShort : g .delay ≤ g .«subfr_length»
+  pub lagHigh : (k : ℕ) → k < g .«nb_subfr» → lagBy g lags k + g .predictLPCOrder + 2 < 4 * g .«subfr_length»
+  pub lagLow : g .voiced ≡ true → (k : ℕ) → k < g .«nb_subfr» → 16 ≤ lagBy g lags k
+  pub early : g .voiced ≡ true → (k : ℕ) → k < g .«nb_subfr» → g .delay + 3 ≤ lagBy g lags k
