@@ -11,7 +11,7 @@ use Rattle.silk.specs.Gains.{«gain_adj_Q16»}
 use Rattle.silk.specs.Filter.{analysis}
 use Rattle.paths.specs.declared.structs.Path.{Path}
 use Rattle.paths.specs.declared.structs.Fix.{Fix}
-use Rattle.paths.specs.Data.{word, noPath, Paths, paths, Core, Running}
+use Rattle.paths.specs.Data.{word, noPath, Paths, paths, Core, Running, Rows}
 use Rattle.paths.specs.Among.{Rule}
 use Rattle.paths.specs.Subframe.{subframe}
 use Rattle.paths.specs.Scale.{filled, scaled}
@@ -25,6 +25,10 @@ pub record Framed : Type 0 where
   pub run : Running
   pub sLTP : List ℤ
   pub «prev_gain_Q16» : ℤ
+
+-- the three together
+abbrev pub framedOf : Running → List ℤ → ℤ → Framed
+framedOf r row prev = record { run = r; sLTP = row; «prev_gain_Q16» = prev }
 
 -- ---- the start
 -- all paths of the call begun; the others of the four stay zero
@@ -160,20 +164,20 @@ unfoldable pub before : Bool → Bool → Fix → List ℤ → ℤ → ℤ → �
 before again rewhite f a gain1 inv prev t sltp =
     regainedLast rewhite f prev (whitenedFirst rewhite f a inv (flushedFirst again f gain1 t) sltp)
 
--- .. of subframe k
-unfoldable pub beforeOf : Call → ℕ → Framed → Whitened
-beforeOf c k t =
-    before (second c k) (rewhites c k) (fixOf c k) (rowsOf c k .a) (word (c .«Gains_Q16») 1) (whiteGain c k) (t .«prev_gain_Q16») (t .run) (t .sLTP)
-
 -- ---- a subframe, all subframes
 -- its samples; its gain is now the gain before
-unfoldable pub coded : Rule → Call → List ℤ → ℕ → Whitened → Framed
-coded rule c x k w =
-    record { run = subframe rule (fixOf c k) (rowsOf c k) x (w .run); sLTP = w .sLTP; «prev_gain_Q16» = word (c .«Gains_Q16») k }
+unfoldable pub coded : Rule → Fix → Rows → List ℤ → Whitened → Framed
+coded rule f v x w = record { run = subframe rule f v x (w .run); sLTP = w .sLTP; «prev_gain_Q16» = f .«Gain_Q16» }
+
+-- a subframe: again and rewhite say whether it is flushed and rewhitened before, gain1 and inv by what
+unfoldable pub step : Rule → Fix → Rows → List ℤ → Bool → Bool → ℤ → ℤ → Framed → Framed
+step rule f v x again rewhite gain1 inv t =
+    coded rule f v x (before again rewhite f (v .a) gain1 inv (t .«prev_gain_Q16») (t .run) (t .sLTP))
 
 -- subframe k
-unfoldable pub subframeTurn : Rule → Call → List ℤ → ℕ → Framed → Framed
-subframeTurn rule c x k t = coded rule c x k (beforeOf c k t)
+abbrev pub subframeTurn : Rule → Call → List ℤ → ℕ → Framed → Framed
+subframeTurn rule c x k t =
+    step rule (fixOf c k) (rowsOf c k) x (second c k) (rewhites c k) (word (c .«Gains_Q16») 1) (whiteGain c k) t
 
 -- ..
 unfoldable pub run : Rule → Call → List ℤ → List ℤ → Framed

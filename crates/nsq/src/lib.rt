@@ -5,5 +5,6 @@ mod call;
 mod ends;
 mod middle;
 mod regain;
+mod step;
 mod tail;
 mod white;
