@@ -37,6 +37,10 @@ pub silk-noise-shape-quantizer-del-dec-unique : (κs a r s e f : _) → del-dec.
     (now (e .1 .1 .1 .1 .0) ≡ now (f .1 .1 .1 .1 .0)) × (now (e .1 .1 .1 .1 .1 .0) ≡ now (f .1 .1 .1 .1 .1 .0)) ×
     (now (e .1 .1 .1 .1 .1 .1 .0) ≡ now (f .1 .1 .1 .1 .1 .1 .0)) × (now (e .1 .1 .1 .1 .1 .1 .1 .0) ≡ now (f .1 .1 .1 .1 .1 .1 .1 .0))
 silk-noise-shape-quantizer-del-dec-unique κs a r s e f p q =
-    let same = p .0 ∙ sym (q .0) in
-    (common-parts same, ap (λ (t : Running). t .core .«delayedGain_Q10») same, ap (λ (t : Running). t .xq) same,
-     ap (λ (t : Running). t .«sLTP_shp_Q14») same, ap (λ (t : Running). t .pulses) same)
+    let same = p .0 ∙ sym (q .0) in (
+      common-parts same,
+      ap (λ (t : Running). t .core .«delayedGain_Q10») same,
+      ap (λ (t : Running). t .xq) same,
+      ap (λ (t : Running). t .«sLTP_shp_Q14») same,
+      ap (λ (t : Running). t .pulses) same,
+    )
