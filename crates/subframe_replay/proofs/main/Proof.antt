@@ -1,0 +1,46 @@
+-- `subframe_replay::main` meets its contract. Assumes nothing.
+use Prim.Native.Nat.{_≤_, _-_}
+use borrow.Author.Needs.{needs}
+use Rattle.subframe_replay.proofs.main.Statement.{statement}
+use Rattle.subframe_replay.proofs.main.Tie as tie
+
+abbrev Inv-loop : tie.InvT-loop
+Inv-loop seed₀ c₀ seed c = c ≤ 384
+
+abbrev μ-loop : tie.MeasureT-loop
+μ-loop seed₀ c₀ seed c = 384 - c
+
+loop-holds : tie.Need-loop-holds Inv-loop μ-loop
+loop-holds c = search needs
+
+rand-requires : tie.Need-rand-requires Inv-loop μ-loop
+rand-requires c κs = search needs
+
+replay-requires : tie.Need-replay-requires Inv-loop μ-loop
+replay-requires c κs = search needs
+
+add-c : tie.Need-add-c Inv-loop μ-loop
+add-c c = search needs
+
+loop-less : tie.Need-loop-less Inv-loop μ-loop
+loop-less c = search needs
+
+loop-again : tie.Need-loop-again Inv-loop μ-loop
+loop-again c = search needs
+
+returns : tie.Need-returns Inv-loop μ-loop
+returns c = search needs
+
+pub main-spec : {M : Type 1} → statement M
+main-spec =
+    tie.close
+    (tie.spec
+    Inv-loop
+    μ-loop
+    loop-holds
+    rand-requires
+    replay-requires
+    add-c
+    loop-less
+    loop-again
+    returns)

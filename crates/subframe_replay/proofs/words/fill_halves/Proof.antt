@@ -1,0 +1,64 @@
+-- `subframe_replay::words::fill_halves` meets its contract. Assumes nothing.
+use mathlib.Core.Path.{_≡_}
+use lib.ListN.{length}
+use Prim.Native.Nat.{_≤_, _-_}
+use borrow.Author.Needs.{needs}
+use Rattle.subframe_replay.proofs.words.fill_halves.Statement.{statement}
+use Rattle.subframe_replay.proofs.words.fill_halves.Tie as tie
+
+abbrev Inv-loop : tie.InvT-loop
+Inv-loop row₀ seed s at₀ n i₀ row at i = (i ≤ n) × (length row ≡ n) × (length row₀ ≡ n)
+
+abbrev μ-loop : tie.MeasureT-loop
+μ-loop row₀ seed s at₀ n i₀ row at i = n - i
+
+loop-holds : tie.Need-loop-holds Inv-loop μ-loop
+loop-holds c = search needs
+
+rand-requires : tie.Need-rand-requires Inv-loop μ-loop
+rand-requires c κs = search needs
+
+rand-requires-2 : tie.Need-rand-requires-2 Inv-loop μ-loop
+rand-requires-2 c κs = search needs
+
+half-requires : tie.Need-half-requires Inv-loop μ-loop
+half-requires c κs = search needs
+
+mul-t10 : tie.Need-mul-t10 Inv-loop μ-loop
+mul-t10 c = search needs
+
+slice-set-from-row : tie.Need-slice-set-from-row Inv-loop μ-loop
+slice-set-from-row c = search needs
+
+add-i : tie.Need-add-i Inv-loop μ-loop
+add-i c = search needs
+
+loop-less : tie.Need-loop-less Inv-loop μ-loop
+loop-less c = search needs
+
+loop-again : tie.Need-loop-again Inv-loop μ-loop
+loop-again c = search needs
+
+same-length : tie.Need-same-length Inv-loop μ-loop
+same-length c = search needs
+
+returns : tie.Need-returns Inv-loop μ-loop
+returns c = search needs
+
+pub fill-halves-spec : {M : Type 1} → statement M
+fill-halves-spec =
+    tie.close
+    (tie.spec
+    Inv-loop
+    μ-loop
+    loop-holds
+    rand-requires
+    rand-requires-2
+    half-requires
+    mul-t10
+    slice-set-from-row
+    add-i
+    loop-less
+    loop-again
+    same-length
+    returns)

@@ -1,0 +1,114 @@
+// Digests of rows: FNV-1a of 32 bits, a word at a time.
+ghost use Prim.Native.Nat.{_<_};
+use fixed::wrap;
+use paths::structs::Path;
+
+const START: u32 = 2166136261;
+
+fn mixed(h: u32, x: i32) -> u32 {
+    wrap::mul_u32(h ^ wrap::bits32(x), 16777619)
+}
+
+fn words(start: u32, row: &[i32]) -> u32 {
+    let mut h = start;
+    let n = row.len();
+    for i in 0..n {
+        h = mixed(h, row[i]);
+    }
+    h
+}
+
+fn print(h: u32) {
+    io::print_hex(1, h as u64, 8);
+    io::write_all(1, b" ");
+}
+
+fn print_last(h: u32) {
+    io::print_hex(1, h as u64, 8);
+    io::write_all(1, b"\n");
+}
+
+fn path(start: u32, p: Path) -> u32 {
+    let row = p.sAR2_Q14;
+    let a = words(start, &row);
+    let b = mixed(mixed(a, p.LF_AR_Q14), p.Diff_Q14);
+    mixed(mixed(mixed(b, p.Seed), p.SeedInit), p.RD_Q10)
+}
+
+// The paths' short words, and before them the ring's place.
+pub fn print_paths(ps: [Path; 4], at: usize)
+    requires { ⌜ at < 40 ⌝ }
+{
+    let mut h = mixed(START, at as i32);
+    for k in 0..4 {
+        let p = ps[k];
+        h = path(h, p);
+    }
+    print(h);
+}
+
+fn print_lpc(lpc: &[[i32; 96]; 4]) {
+    let mut h = START;
+    for k in 0..4 {
+        h = words(h, &lpc[k]);
+    }
+    print(h);
+}
+
+fn rings_of(start: u32, ring: &[[i32; 40]; 5]) -> u32 {
+    let mut h = start;
+    for r in 0..5 {
+        h = words(h, &ring[r]);
+    }
+    h
+}
+
+fn print_rings(ring: &[[[i32; 40]; 5]; 4]) {
+    let mut h = START;
+    for k in 0..4 {
+        h = rings_of(h, &ring[k]);
+    }
+    print(h);
+}
+
+fn print_words(row: &[i32]) {
+    print(words(START, row));
+}
+
+fn print_halves(row: &[i16]) {
+    let mut h = START;
+    let n = row.len();
+    for i in 0..n {
+        h = mixed(h, wrap::wide16(row[i]));
+    }
+    print(h);
+}
+
+// The last of a line.
+fn print_pulses(row: &[i8]) {
+    let mut h = START;
+    let n = row.len();
+    for i in 0..n {
+        h = mixed(h, wrap::wide8(row[i]));
+    }
+    print_last(h);
+}
+
+// All rows of a subframe.
+pub fn print_rows(
+    lpc: &[[i32; 96]; 4],
+    ring: &[[[i32; 40]; 5]; 4],
+    ltp: &[i32; 640],
+    dgain: &[i32; 40],
+    xq: &[i16; 640],
+    shp: &[i32; 640],
+    pulses: &[i8; 320],
+) {
+    print_lpc(lpc);
+    print_rings(ring);
+    print_words(ltp);
+    print_words(dgain);
+    print_halves(xq);
+    print_words(shp);
+    print_pulses(pulses);
+}

@@ -1,0 +1,155 @@
+// One subframe: its rows are made, the two functions called, and all rows printed.
+ghost use Prim.Native.Nat.{_<_};
+ghost use Rattle.paths.specs.Subframe.{Fits};
+use crate::digest;
+use crate::fits;
+use crate::rows;
+use crate::settings;
+use crate::words;
+use paths::scale;
+use paths::structs::Fix;
+use paths::structs::Work;
+use paths::subframe;
+use silk::gains;
+
+// The work row of a rewhitened subframe.
+fn rewhiten(ltp: &mut [i32; 640], f: Fix, c: usize, seed: i32)
+    requires { ⌜ Fits f × (c < 384) ⌝ }
+{
+    let sltp = words::halves640(words::seed_of(seed, 8), settings::half_shift(c));
+    let inv = gains::inv_gain_Q31(settings::gain(c));
+    if settings::number(c) == 0 {
+        let scaled = gains::ltp_scaled_inv_gain(inv, settings::ltp_scale(c, seed));
+        scale::filled(ltp, &sltp, scaled, f.buf - f.lag - 2, f.lag + 2);
+    } else {
+        scale::filled(ltp, &sltp, inv, f.buf - f.lag - 2, f.lag + 2);
+    }
+}
+
+// The change of gain, if there is one.
+fn rescaled(
+    w: Work,
+    lpc: &mut [[i32; 96]; 4],
+    ring: &mut [[[i32; 40]; 5]; 4],
+    ltp: &mut [i32; 640],
+    shp: &mut [i32; 640],
+    f: Fix,
+    c: usize,
+) -> Work
+    requires { ⌜ Fits f × ((c < 384) × (w .«smpl_buf_idx» < 40)) ⌝ }
+    ensures { λ r. ⌜ r .«smpl_buf_idx» < 40 ⌝ }
+{
+    let prev = settings::previous_gain(c);
+    let gain = settings::gain(c);
+    if gain == prev {
+        return w;
+    }
+    let adj = gains::gain_adj_Q16(prev, gain);
+    scale::silk_nsq_del_dec_scale_states(w, lpc, ring, ltp, shp, f, settings::rewhitened(c), adj)
+}
+
+// The paths, after what comes before the samples.
+fn prepared(
+    lpc: &mut [[i32; 96]; 4],
+    ring: &mut [[[i32; 40]; 5]; 4],
+    ltp: &mut [i32; 640],
+    shp: &mut [i32; 640],
+    f: Fix,
+    c: usize,
+    seed: i32,
+) -> Work
+    requires { ⌜ Fits f × (c < 384) ⌝ }
+    ensures { λ r. ⌜ r .«smpl_buf_idx» < 40 ⌝ }
+{
+    let at = c * 7 % 40;
+    let w = Work {
+        ps: rows::paths(seed, settings::shift(c)),
+        smpl_buf_idx: at,
+    };
+    if settings::rewhitened(c) {
+        rewhiten(ltp, f, c, seed);
+    }
+    rescaled(w, lpc, ring, ltp, shp, f, c)
+}
+
+// The samples.
+fn quantised(
+    w: Work,
+    lpc: &mut [[i32; 96]; 4],
+    ring: &mut [[[i32; 40]; 5]; 4],
+    ltp: &mut [i32; 640],
+    dgain: &mut [i32; 40],
+    xq: &mut [i16; 640],
+    shp: &mut [i32; 640],
+    pulses: &mut [i8; 320],
+    f: Fix,
+    c: usize,
+    seed: i32,
+) -> Work
+    requires { ⌜ Fits f × (w .«smpl_buf_idx» < 40) ⌝ }
+    ensures { λ r. ⌜ r .«smpl_buf_idx» < 40 ⌝ }
+{
+    let h = settings::half_shift(c);
+    let x = words::halves320(words::seed_of(seed, 10), h);
+    let a = words::halves24(words::seed_of(seed, 11), h);
+    let b = words::halves24(words::seed_of(seed, 12), h);
+    let ar = words::halves24(words::seed_of(seed, 13), h);
+    let half = settings::halves(c, seed);
+    subframe::silk_noise_shape_quantizer_del_dec(
+        w,
+        lpc,
+        ring,
+        ltp,
+        dgain,
+        xq,
+        shp,
+        pulses,
+        &x,
+        &a,
+        &b,
+        &ar,
+        f,
+        half,
+    )
+}
+
+// Subframe c.
+pub fn replay(c: usize, seed: i32)
+    requires { ⌜ c < 384 ⌝ }
+{
+    let inv = gains::inv_gain_Q31(settings::gain(c));
+    let f = settings::fix(c, seed, gains::inv_gain_Q26(inv));
+    if fits::fits(f) {
+        run(c, seed, f);
+    }
+}
+
+fn run(c: usize, seed: i32, f: Fix)
+    requires { ⌜ Fits f × (c < 384) ⌝ }
+{
+    let s = settings::shift(c);
+    let mut lpc = rows::lpc(seed, s);
+    let mut ring = rows::rings(seed, s);
+    let mut ltp = words::words640(words::seed_of(seed, 7), s);
+    let mut dgain = words::words40(words::seed_of(seed, 9), s);
+    let mut xq = words::halves640(words::seed_of(seed, 5), settings::half_shift(c));
+    let mut shp = words::words640(words::seed_of(seed, 6), s);
+    let mut pulses = words::no_pulses();
+    let w = prepared(&mut lpc, &mut ring, &mut ltp, &mut shp, f, c, seed);
+    let r = quantised(
+        w,
+        &mut lpc,
+        &mut ring,
+        &mut ltp,
+        &mut dgain,
+        &mut xq,
+        &mut shp,
+        &mut pulses,
+        f,
+        c,
+        seed,
+    );
+    let ps = r.ps;
+    digest::print_paths(ps, r.smpl_buf_idx);
+    digest::print_rows(&lpc, &ring, &ltp, &dgain, &xq, &shp, &pulses);
+}
