@@ -12,7 +12,7 @@ use crate::before;
 use paths::structs::Fix;
 use paths::structs::Halves;
 use paths::structs::Work;
-use paths::subframe;
+use paths::subframe::silk_noise_shape_quantizer_del_dec as samples;
 
 // A frame in work, but its rows: the paths, the filtered history, and the gain of the subframe before.
 pub struct Frame {
@@ -73,22 +73,7 @@ pub fn step(
     );
     let u = r.work;
     let row = r.sLTP;
-    let v = subframe::silk_noise_shape_quantizer_del_dec(
-        u,
-        lpc,
-        ring,
-        ltp,
-        dgain,
-        xq,
-        shp,
-        pulses,
-        x,
-        a,
-        b,
-        ar,
-        f,
-        h,
-    );
+    let v = samples(u, lpc, ring, ltp, dgain, xq, shp, pulses, x, a, b, ar, f, h);
     let gain = f.Gain_Q16;
     Frame {
         work: v,
