@@ -1,0 +1,109 @@
+-- Every number of a section fits where the section's range does. Assumes nothing.
+use mathlib.Core.Path.{_≡_, refl}
+use mathlib.Core.List.{List, [], _∷_, _++_}
+use Prim.Native.Nat.{ℕ, zero, suc, _-_, _+_, _≤_, _<_}
+use native.Mathlib.Omega.{arith}
+use lib.ListN.{length, getD, replicate, take, set}
+use lib.Seq.{take-suc, take-suc-set}
+use lib.IntN.{ℤ, pos, negsuc, natAbs}
+use lib.Dec.{T}
+use lib.Signed.{ltZ, nonNeg}
+use mathlib.Core.Bool.{false}
+use native.Mathlib.Numerals.{add-one}
+use mir.Syntax.{w16}
+use mir.Val.{SFits}
+use mir.Facts.{sfits-lit}
+use Rattle.silk.specs.State.{zeros}
+use Rattle.sheet_form.specs.Number.{Range, Read, got, bad, number}
+use Rattle.sheet_form.specs.Sections.{Kind, andThen, before, numbers, section, row, i16}
+use Rattle.sheet_form.specs.Rows.{Rest, left, stopped, padded, taken, takeSection, Halves}
+use Rattle.sheet_form.proofs.Numbers.{number-fits, number-range}
+use Rattle.fixed.proofs.Lin.{lt-false}
+
+-- ---- past its end a row has zeros
+replicate-at : (n i : ℕ) → getD (replicate n (pos 0)) i (pos 0) ≡ pos 0
+replicate-at zero i = refl
+replicate-at (suc n) zero = refl
+replicate-at (suc n) (suc i) = replicate-at n i
+
+zeros-at : (zs : List ℤ) (n i : ℕ) → getD (zs ++ zeros n) i (pos 0) ≡ getD zs i (pos 0)
+unfolding zeros
+zeros-at [] n i = replicate-at n i
+zeros-at (z ∷ zs) n zero = refl
+zeros-at (z ∷ zs) n (suc i) = zeros-at zs n i
+
+pub padded-at : (zs : List ℤ) (i : ℕ) → getD (padded zs) i (pos 0) ≡ getD zs i (pos 0)
+unfolding padded
+padded-at zs i = zeros-at zs (320 - length zs) i
+
+-- ---- the numbers that were read
+-- all numbers fit; 0 stands past the last
+abbrev All : List ℤ → Type 0
+All zs = (i : ℕ) → SFits w16 (getD zs i (pos 0))
+
+abbrev AllRead : Read (List ℤ) → Type 0
+AllRead (got zs s) = All zs
+AllRead bad = Unit {0}
+
+none-fits : All []
+none-fits i = sfits-lit tt
+
+cons-fits : (z : ℤ) (zs : List ℤ) → SFits w16 z → All zs → All (z ∷ zs)
+cons-fits z zs f h zero = f
+cons-fits z zs f h (suc i) = h i
+
+before-fits : (z : ℤ) (m : Read (List ℤ)) → SFits w16 z → AllRead m → AllRead (before z m)
+unfolding before
+before-fits z (got zs s) f h = cons-fits z zs f h
+before-fits z bad f h = tt
+
+module _ (r : Range) (low-fits : SFits w16 (r .low)) (high-fits : SFits w16 (r .high)) where
+  then-fits : (n : ℕ) (s : List ℕ) (m : Read ℤ) → number r s ≡ m → ((t : List ℕ) → AllRead (numbers r n t)) → AllRead (andThen m (λ z t. before z (numbers r n t)))
+  unfolding andThen
+  then-fits n s (got z t) e h = before-fits z (numbers r n t) (number-fits w16 r s t z low-fits high-fits e) (h t)
+  then-fits n s bad e h = tt
+
+  pub numbers-fit : (n : ℕ) (s : List ℕ) → AllRead (numbers r n s)
+  unfolding numbers
+  numbers-fit zero s = none-fits
+  numbers-fit (suc n) s = then-fits n s (number r s) refl (numbers-fit n)
+
+  count-fits : (m : Read ℤ) → AllRead (andThen m (λ n t. numbers r (natAbs n) t))
+  unfolding andThen
+  count-fits (got n t) = numbers-fit (natAbs n) t
+  count-fits bad = tt
+
+taken-fits : (k : ℕ) (m : Read (List ℤ)) → AllRead m → All (taken k m .row)
+unfolding taken
+taken-fits k (got zs s) h = h
+taken-fits k bad h = none-fits
+
+-- the numbers of a section of 16-bit numbers
+pub section-fits : (k : ℕ) (rest : Rest) → All (takeSection (row i16) k rest .row)
+unfolding takeSection section
+section-fits k (left s) = taken-fits k _ (count-fits i16 (sfits-lit tt) (sfits-lit tt) (number (row i16 .counts) s))
+section-fits k (stopped j) = none-fits
+
+pub halves-fit : (zs : List ℤ) → All zs → Halves (padded zs)
+halves-fit zs h i = rw (padded-at zs i) (h i)
+
+-- ---- a section by its count
+pub section-got : (kind : Kind) (s t : List ℕ) (n : ℤ) → number (kind .counts) s ≡ got n t → section kind s ≡ numbers (kind .words) (natAbs n) t
+unfolding section andThen
+section-got kind s t n e = rw e
+
+pub section-bad : (kind : Kind) (s : List ℕ) → number (kind .counts) s ≡ bad → section kind s ≡ bad
+unfolding section andThen
+section-bad kind s e = rw e
+
+count-is : (least most : ℕ) (n : ℤ) → ltZ n (pos least) ≡ false → ltZ (pos most) n ≡ false → T (nonNeg n) × (natAbs n ≤ most)
+count-is least most (pos n) p q = (tt, omega (arith, lt-false (pos most) (pos n) q))
+count-is least most (negsuc n) p q = absurd (omega (arith, lt-false (negsuc n) (pos least) p))
+
+-- a count that was read is no negative number, and no more than allowed
+pub count-small : (least most : ℕ) (s t : List ℕ) (n : ℤ) → number (record { low = pos least; high = pos most }) s ≡ got n t → T (nonNeg n) × (natAbs n ≤ most)
+count-small least most s t n e = let p = number-range (record { low = pos least; high = pos most }) s t n e in count-is least most n (p .0) (p .1)
+
+-- ---- a row copied word by word
+pub copied : (out words : List ℤ) (i : ℕ) → i < length out → i < length words → take i out ≡ take i words → take (i + 1) (set out i (getD words i (pos 0))) ≡ take (i + 1) words
+copied out words i h k e = rw (add-one i, take-suc-set out i (getD words i (pos 0)) h, take-suc words i (pos 0) k, e)

@@ -1,0 +1,11 @@
+pub mod Runs
+pub mod Variants
+pub mod Values
+pub mod Signs
+pub mod Words
+pub mod Numbers
+pub mod Fitting
+pub mod Whole
+pub mod Paths
+pub mod Unique
+pub mod Examples

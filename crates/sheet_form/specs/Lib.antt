@@ -1,0 +1,5 @@
+pub mod Number
+pub mod Sections
+pub mod Found
+pub mod Rows
+pub mod Sheets

@@ -1,0 +1,68 @@
+-- Lines of text, part after part. Assumes nothing.
+use mathlib.Core.Path.{_≡_, refl}
+use mathlib.Core.List.{List}
+use Prim.Native.Nat.{ℕ, _+_, _%_, _<_}
+use native.Mathlib.Numerals.{add-one}
+use lib.ListN.{length, drop, getD}
+use lib.Seq.{drop-cons, drop-length}
+use lib.IntN.{ℤ, pos}
+use borrow.Author.Tests.{eq-eqb, ne-eqb}
+use Rattle.sheet_print.specs.Page.{Page, put, puts}
+use Rattle.sheet_print.specs.Text.{decimal, digits, lineOf, spaced, sectionText, afterPulse, pulseLines, answerWord, seedWord, acceptedText, answerText}
+use Rattle.sheet_print.proofs.Pages.{puts-append, puts-one}
+
+-- a word, a number, a line feed
+pub line-puts : (w : List ℕ) (z : ℤ) (p : Page) → put 10 (puts (decimal z) (puts w p)) ≡ puts (lineOf w z) p
+unfolding lineOf
+line-puts w z p = simp (puts-append, puts-one)
+
+pub digits-decimal : (n : ℕ) → digits n ≡ decimal (pos n)
+unfolding decimal
+digits-decimal n = refl
+
+-- what follows a pulse
+pub twentieth : (n i : ℕ) → i % 20 ≡ 19 → 10 ≡ afterPulse n i
+unfolding afterPulse
+twentieth n i e = rw (eq-eqb (i % 20) 19 e)
+
+pub last-pulse : (n i : ℕ) → (i % 20 ≡ 19 → ⊥) → i + 1 ≡ n → 10 ≡ afterPulse n i
+unfolding afterPulse
+last-pulse n i h e = rw (ne-eqb (i % 20) 19 h, eq-eqb (i + 1) n e)
+
+pub other-pulse : (n i : ℕ) → (i % 20 ≡ 19 → ⊥) → (i + 1 ≡ n → ⊥) → 32 ≡ afterPulse n i
+unfolding afterPulse
+other-pulse n i h k = rw (ne-eqb (i % 20) 19 h, ne-eqb (i + 1) n k)
+
+-- one pulse more
+pub pulses-more : (n i : ℕ) (zs : List ℤ) (p : Page) → i < length zs
+    → puts (pulseLines n i (drop i zs)) p ≡ puts (pulseLines n (i + 1) (drop (i + 1) zs)) (put (afterPulse n i) (puts (decimal (getD zs i (pos 0))) p))
+unfolding pulseLines puts
+pulses-more n i zs p h = rw (drop-cons zs i (pos 0) h, add-one i) (puts-append (decimal (getD zs i (pos 0))) _ p)
+
+pub pulses-done : (n i : ℕ) (zs : List ℤ) (p : Page) → i ≡ length zs → puts (pulseLines n i (drop i zs)) p ≡ p
+unfolding pulseLines puts
+pulses-done n i zs p e = rw (e, drop-length zs)
+
+-- the two answers
+pub accepted-puts : (number : ℕ) (seed : ℤ) (pulses : List ℤ) (p : Page) → number ≡ 0
+    → puts (pulseLines (length pulses) 0 pulses) (puts (lineOf seedWord seed) (puts (lineOf answerWord (pos number)) p)) ≡ puts (answerText number seed pulses) p
+unfolding answerText acceptedText
+accepted-puts number seed pulses p e = rw e (simp puts-append)
+
+pub refused-puts : (number : ℕ) (seed : ℤ) (pulses : List ℤ) (p : Page) → (number ≡ 0 → ⊥) → puts (lineOf answerWord (pos number)) p ≡ puts (answerText number seed pulses) p
+unfolding answerText
+refused-puts number seed pulses p h = rw (ne-eqb number 0 h)
+
+-- one number of a section more
+pub spaced-more : (i : ℕ) (zs : List ℤ) (p : Page) → i < length zs → puts (spaced (drop i zs)) p ≡ puts (spaced (drop (i + 1) zs)) (puts (decimal (getD zs i (pos 0))) (put 32 p))
+unfolding spaced puts
+spaced-more i zs p h = rw (drop-cons zs i (pos 0) h, add-one i) (puts-append (decimal (getD zs i (pos 0))) _ (put 32 p))
+
+pub spaced-done : (i : ℕ) (zs : List ℤ) (p : Page) → i ≡ length zs → puts (spaced (drop i zs)) p ≡ p
+unfolding spaced puts
+spaced-done i zs p e = rw (e, drop-length zs)
+
+-- a section on its line
+pub section-puts : (zs : List ℤ) (p : Page) → put 10 (puts (spaced zs) (puts (decimal (pos (length zs))) p)) ≡ puts (sectionText zs) p
+unfolding sectionText
+section-puts zs p = simp (puts-append, puts-one)

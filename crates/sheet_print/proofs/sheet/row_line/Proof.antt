@@ -1,0 +1,112 @@
+-- `sheet_print::sheet::row_line` meets its contract. Assumes nothing.
+use mathlib.Core.Path.{_≡_, refl, sym, ap, _∙_}
+use borrow.Author.Needs.{needs}
+use native.Mathlib.Omega.{arith}
+use Prim.Native.Nat.{ℕ, _+_, _-_, _≤_}
+use mathlib.Core.List.{List}
+use lib.ListN.{length, drop, take, getD}
+use lib.Seq.{length-take-le, getD-take}
+use lib.IntN.{ℤ, pos}
+use mir.Syntax.{w32}
+use mir.Val.{SFits}
+use denote.Ref.{now}
+use Rattle.fixed.proofs.Fit.{back, read}
+use Rattle.sheet_print.specs.Page.{Page, page, put, puts}
+use Rattle.sheet_print.specs.Text.{digits, decimal, spaced}
+use Rattle.sheet_print.proofs.Lines.{digits-decimal, spaced-more, spaced-done, section-puts}
+use Rattle.sheet_print.proofs.sheet.row_line.Statement.{statement}
+use Rattle.sheet_print.proofs.sheet.row_line.Tie as tie
+
+abbrev Inv-loop : tie.InvT-loop
+Inv-loop out₀ used count words m₀ i₀ out m i =
+    ((i ≤ count) × (length out ≡ length out₀)) × (puts (spaced (take count words)) (page m₀ out₀) ≡ puts (spaced (drop i (take count words))) (page m out))
+
+abbrev μ-loop : tie.MeasureT-loop
+μ-loop out₀ used count words m₀ i₀ out m i = count - i
+
+cast-digits : tie.Need-cast-digits Inv-loop μ-loop
+cast-digits c = search needs
+
+digits-requires : tie.Need-digits-requires Inv-loop μ-loop
+digits-requires c κs = search needs
+
+loop-holds : tie.Need-loop-holds Inv-loop μ-loop
+loop-holds c = search needs
+
+put-requires : tie.Need-put-requires Inv-loop μ-loop
+put-requires c κs = search needs
+
+mul-decimal : tie.Need-mul-decimal Inv-loop μ-loop
+mul-decimal c = search needs
+
+array-copy-out-decimal : tie.Need-array-copy-out-decimal Inv-loop μ-loop
+array-copy-out-decimal c = search needs
+
+decimal-requires : tie.Need-decimal-requires Inv-loop μ-loop
+decimal-requires c κs = search needs
+
+add-i : tie.Need-add-i Inv-loop μ-loop
+add-i c = search needs
+
+loop-less : tie.Need-loop-less Inv-loop μ-loop
+loop-less c = search needs
+
+loop-again : tie.Need-loop-again Inv-loop μ-loop
+loop-again c =
+    let d = c .before .before in
+    let q = d .before .before .before .before .before in
+    let l = q .before .before .before in
+    let st = l .before .before .before .before .before .before in
+    let a = st .args in
+    let i = l .loop .i in
+    let zs = take (a .count) (a .t3) in
+    let n : length zs ≡ a .count = length-take-le (a .count) (a .t3) (omega (arith, st .good, st .pre)) in
+    let v : getD zs i (pos 0) ≡ getD (a .t3) i (pos 0) = getD-take (a .count) (a .t3) i (pos 0) (omega arith) in
+    let e = rw (back w32 (getD (a .t3) i (pos 0)) (d .before .decimal-arg2 .given), ← v) at (d .decimal .ensures) in (
+      (search needs, d .decimal .kept .0 ∙ q .put .kept .0 ∙ l .loop .inv .0 .1),
+      l .loop .inv .1 ∙ spaced-more i zs (page (l .loop .m) (l .loop .out)) (omega arith)
+          ∙ ap (puts (spaced (drop (i + 1) zs))) (sym (e ∙ rw (q .put .ensures))),
+    )
+
+put-requires-2 : tie.Need-put-requires-2 Inv-loop μ-loop
+put-requires-2 c κs = search needs
+
+same-length : tie.Need-same-length Inv-loop μ-loop
+same-length c =
+    let w = c .before .before in
+    let l = w .before .before .before in
+    w .put2 .kept .0 ∙ l .loop .inv .0 .1 ∙ l .before .before .before .digits .kept .0
+
+returns : tie.Need-returns Inv-loop μ-loop
+returns c =
+    let w = c .before .before in
+    let l = w .before .before .before in
+    let d = l .before .before .before in
+    let st = d .before .before .before in
+    let a = st .args in
+    let zs = take (a .count) (a .t3) in
+    let n : length zs ≡ a .count = length-take-le (a .count) (a .t3) (omega (arith, st .good, st .pre)) in
+    w .put2 .ensures
+    ∙ ap (put 10) (sym (l .loop .inv .1 ∙ spaced-done (l .loop .i) zs (page (l .loop .m) (l .loop .out)) (omega arith)))
+    ∙ ap (λ (p : Page). put 10 (puts (spaced zs) p)) (d .digits .ensures ∙ ap (λ (s : List ℕ). puts s (page (a .used) (now (a .out)))) (ap digits (sym n) ∙ digits-decimal (length zs)))
+    ∙ section-puts zs (page (a .used) (now (a .out)))
+
+pub row-line-spec : {M : Type 1} → statement M
+row-line-spec =
+    tie.close
+    (tie.spec
+    Inv-loop
+    μ-loop
+    cast-digits
+    digits-requires
+    loop-holds
+    put-requires
+    mul-decimal
+    array-copy-out-decimal
+    decimal-requires
+    add-i
+    loop-less
+    loop-again
+    put-requires-2
+    same-length
+    returns)
