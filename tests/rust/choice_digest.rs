@@ -1,6 +1,7 @@
-//! Writes the file `stdout` of the program choice_digest, by the Rust of unopus 0.0.1. It is a program of the oracle: put it into the
-//! oracle's harness as src/bin/choice_digest.rs, build the oracle, and run `choice_digest > stdout`. The oracle's patch.py has cut
-//! the candidate choice out of NSQ_del_dec.rs, unchanged, into choice.rs; without overflow checks, as in a release build.
+//! Writes the file `stdout` of the program choice_digest, by the Rust of unopus 0.0.1. Here `unopus_nsq` is a library of its sources
+//! src/silk/*.rs with public modules, in which the candidate choice of NSQ_del_dec.rs has been cut out, unchanged, into a function of its
+//! own, module `choice`: from `q1_Q10 = ..` to the two costs. Build it with this program for release, without overflow checks, and run
+//! `choice_digest > stdout`.
 use unopus_nsq::silk::choice::choice;
 use unopus_nsq::silk::tables_other::silk_Quantization_Offsets_Q10;
 use unopus_nsq::silk::NSQ_del_dec::{NSQ_del_dec_struct, NSQ_sample_struct};

@@ -1,7 +1,7 @@
 //! Writes the file `stdout` of the program subframe_replay, by the Rust of unopus 0.0.1: `silk_nsq_del_dec_scale_states`, then
-//! `silk_noise_shape_quantizer_del_dec`, on the same settings and rows. It is a program of the oracle: put it into the oracle's
-//! harness as src/bin/subframe_replay.rs, make both functions of NSQ_del_dec.rs public (`sed -i 's/^unsafe fn silk_n/pub unsafe fn silk_n/'`),
-//! build the oracle for release, without overflow checks, and run `subframe_replay > stdout`.
+//! `silk_noise_shape_quantizer_del_dec`, on the same settings and rows. Here `unopus_nsq` is a library of its sources src/silk/*.rs with
+//! public modules and with both functions of NSQ_del_dec.rs public (`sed -i 's/^unsafe fn silk_n/pub unsafe fn silk_n/'`). Build it with
+//! this program for release, without overflow checks, and run `subframe_replay > stdout`.
 #![allow(non_snake_case)]
 use unopus_nsq::silk::structs::{silk_encoder_state, silk_nsq_state};
 use unopus_nsq::silk::NSQ_del_dec::{silk_noise_shape_quantizer_del_dec, silk_nsq_del_dec_scale_states, NSQ_del_dec_struct};

@@ -2,8 +2,7 @@
 // 52 million choices. A line has Lambda and its digest, each as eight hexadecimal digits.
 //
 // The file `stdout` beside src/ was written by the Rust, not by this program: by tests/rust/choice_digest.rs, which runs the same
-// loop over the lines of NSQ_del_dec.rs, cut out unchanged by the oracle's `patch.py` into `choice.rs`, and over its offset table. That
-// file says how to repeat it.
+// loop over the lines of NSQ_del_dec.rs, cut out unchanged into a function, and over its offset table. That file says how to repeat it.
 use choice::candidate;
 use choice::offset;
 use fixed::generator;

@@ -1,6 +1,6 @@
 -- Lines of text, part after part. Assumes nothing.
-use mathlib.Core.Path.{_≡_, refl}
-use mathlib.Core.List.{List}
+use mathlib.Core.Path.{_≡_, refl, sym, ap, _∙_}
+use mathlib.Core.List.{List, [], _∷_, _++_}
 use Prim.Native.Nat.{ℕ, _+_, _%_, _<_}
 use native.Mathlib.Numerals.{add-one}
 use lib.ListN.{length, drop, getD}
@@ -8,7 +8,7 @@ use lib.Seq.{drop-cons, drop-length}
 use lib.IntN.{ℤ, pos}
 use borrow.Author.Tests.{eq-eqb, ne-eqb}
 use Rattle.sheet_print.specs.Page.{Page, put, puts}
-use Rattle.sheet_print.specs.Text.{decimal, digits, lineOf, spaced, sectionText, afterPulse, pulseLines, answerWord, seedWord, acceptedText, answerText}
+use Rattle.sheet_print.specs.Text.{decimal, digits, lineOf, spaced, sectionText, sheetText, afterPulse, pulseLines, answerWord, seedWord, acceptedText, answerText}
 use Rattle.sheet_print.proofs.Pages.{puts-append, puts-one}
 
 -- a word, a number, a line feed
@@ -66,3 +66,27 @@ spaced-done i zs p e = rw (e, drop-length zs)
 pub section-puts : (zs : List ℤ) (p : Page) → put 10 (puts (spaced zs) (puts (decimal (pos (length zs))) p)) ≡ puts (sectionText zs) p
 unfolding sectionText
 section-puts zs p = simp (puts-append, puts-one)
+
+-- section after section
+sheet-step : (zs : List ℤ) (rows : List (List ℤ)) (p : Page) → puts (sheetText (zs ∷ rows)) p ≡ puts (sheetText rows) (puts (sectionText zs) p)
+unfolding sheetText
+sheet-step zs rows p = puts-append (sectionText zs) (sheetText rows) p
+
+sheet-none : (p : Page) → puts (sheetText []) p ≡ p
+unfolding sheetText puts
+sheet-none p = refl
+
+pub four-puts : (a b c d : List ℤ) (p : Page)
+    → puts (sectionText d) (puts (sectionText c) (puts (sectionText b) (puts (sectionText a) p))) ≡ puts (sheetText (a ∷ b ∷ c ∷ d ∷ [])) p
+four-puts a b c d p = sym (sheet-step a _ p ∙ sheet-step b _ _ ∙ sheet-step c _ _ ∙ sheet-step d [] _ ∙ sheet-none _)
+
+pub five-puts : (a b c d e : List ℤ) (p : Page)
+    → puts (sectionText e) (puts (sectionText d) (puts (sectionText c) (puts (sectionText b) (puts (sectionText a) p)))) ≡ puts (sheetText (a ∷ b ∷ c ∷ d ∷ e ∷ [])) p
+five-puts a b c d e p = sym (sheet-step a _ p ∙ sheet-step b _ _ ∙ sheet-step c _ _ ∙ sheet-step d _ _ ∙ sheet-step e [] _ ∙ sheet-none _)
+
+pub rows-puts : (rows more : List (List ℤ)) (p : Page) → puts (sheetText more) (puts (sheetText rows) p) ≡ puts (sheetText (rows ++ more)) p
+rows-puts [] more p = ap (puts (sheetText more)) (sheet-none p)
+rows-puts (zs ∷ rows) more p = ap (puts (sheetText more)) (sheet-step zs rows p) ∙ rows-puts rows more (puts (sectionText zs) p) ∙ sym (sheet-step zs (rows ++ more) p)
+
+pub first-puts : (zs : List ℤ) (rows : List (List ℤ)) (p : Page) → puts (sheetText rows) (puts (sectionText zs) p) ≡ puts (sheetText (zs ∷ rows)) p
+first-puts zs rows p = sym (sheet-step zs rows p)

@@ -6,6 +6,7 @@ use denote.Ref.{now}
 use Rattle.sheet_print.specs.Page.{Page, page}
 use Rattle.sheet_print.proofs.text.answer.Reads as answer
 use Rattle.sheet_print.proofs.text.fault.Reads as fault
+use Rattle.sheet_print.proofs.sheet.print.Reads as print
 
 -- a page's parts
 parts : (m n : ℕ) (s t : List ℕ) → page m s ≡ page n t → (m ≡ n) × (s ≡ t)
@@ -16,3 +17,6 @@ answer-unique κs a r s e f p q = parts r s _ _ (p ∙ sym q)
 
 pub fault-unique : (κs a r s e f : _) → fault.Post κs a r e → fault.Post κs a s f → (r ≡ s) × (now (e .0) ≡ now (f .0))
 fault-unique κs a r s e f p q = parts r s _ _ (p ∙ sym q)
+
+pub print-unique : (κs a r s e f : _) → print.Post κs a r e → print.Post κs a s f → (r ≡ s) × (now (e .0) ≡ now (f .0))
+print-unique κs a r s e f p q = parts r s _ _ (p ∙ sym q)

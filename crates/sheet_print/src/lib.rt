@@ -1,4 +1,4 @@
 // Printing: answers, faults and call sheets of document 01, as bytes in a lent buffer.
 mod page;
-mod sheet;
+pub mod sheet;
 pub mod text;

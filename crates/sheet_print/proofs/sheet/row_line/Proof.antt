@@ -1,16 +1,15 @@
 -- `sheet_print::sheet::row_line` meets its contract. Assumes nothing.
-use mathlib.Core.Path.{_≡_, refl, sym, ap, _∙_}
+use mathlib.Core.Path.{_≡_, sym, ap, _∙_}
 use borrow.Author.Needs.{needs}
 use native.Mathlib.Omega.{arith}
 use Prim.Native.Nat.{ℕ, _+_, _-_, _≤_}
 use mathlib.Core.List.{List}
-use lib.ListN.{length, drop, take, getD}
-use lib.Seq.{length-take-le, getD-take}
-use lib.IntN.{ℤ, pos}
+use lib.ListN.{length, drop, getD}
+use lib.IntN.{pos}
 use mir.Syntax.{w32}
 use mir.Val.{SFits}
 use denote.Ref.{now}
-use Rattle.fixed.proofs.Fit.{back, read}
+use Rattle.fixed.proofs.Fit.{read}
 use Rattle.sheet_print.specs.Page.{Page, page, put, puts}
 use Rattle.sheet_print.specs.Text.{digits, decimal, spaced}
 use Rattle.sheet_print.proofs.Lines.{digits-decimal, spaced-more, spaced-done, section-puts}
@@ -18,11 +17,11 @@ use Rattle.sheet_print.proofs.sheet.row_line.Statement.{statement}
 use Rattle.sheet_print.proofs.sheet.row_line.Tie as tie
 
 abbrev Inv-loop : tie.InvT-loop
-Inv-loop out₀ used count words m₀ i₀ out m i =
-    ((i ≤ count) × (length out ≡ length out₀)) × (puts (spaced (take count words)) (page m₀ out₀) ≡ puts (spaced (drop i (take count words))) (page m out))
+Inv-loop out₀ used words count m₀ i₀ out m i =
+    ((i ≤ count) × (length out ≡ length out₀)) × (puts (spaced words) (page m₀ out₀) ≡ puts (spaced (drop i words)) (page m out))
 
 abbrev μ-loop : tie.MeasureT-loop
-μ-loop out₀ used count words m₀ i₀ out m i = count - i
+μ-loop out₀ used words count m₀ i₀ out m i = count - i
 
 cast-digits : tie.Need-cast-digits Inv-loop μ-loop
 cast-digits c = search needs
@@ -39,8 +38,8 @@ put-requires c κs = search needs
 mul-decimal : tie.Need-mul-decimal Inv-loop μ-loop
 mul-decimal c = search needs
 
-array-copy-out-decimal : tie.Need-array-copy-out-decimal Inv-loop μ-loop
-array-copy-out-decimal c = search needs
+shared-slice-copy-out-decimal : tie.Need-shared-slice-copy-out-decimal Inv-loop μ-loop
+shared-slice-copy-out-decimal c = search needs
 
 decimal-requires : tie.Need-decimal-requires Inv-loop μ-loop
 decimal-requires c κs = search needs
@@ -56,13 +55,11 @@ loop-again c =
     let d = c .before .before in
     let q = d .before .before .before .before .before in
     let l = q .before .before .before in
-    let st = l .before .before .before .before .before .before in
-    let a = st .args in
+    let a = l .before .before .before .before .before .before .args in
     let i = l .loop .i in
-    let zs = take (a .count) (a .t3) in
-    let n : length zs ≡ a .count = length-take-le (a .count) (a .t3) (omega (arith, st .good, st .pre)) in
-    let v : getD zs i (pos 0) ≡ getD (a .t3) i (pos 0) = getD-take (a .count) (a .t3) i (pos 0) (omega arith) in
-    let e = rw (back w32 (getD (a .t3) i (pos 0)) (d .before .decimal-arg2 .given), ← v) at (d .decimal .ensures) in (
+    let zs = now (a .words) in
+    let v : SFits w32 (getD zs i (pos 0)) = record { sfits = d .before .decimal-arg2 .given } in
+    let e = rw (read v) at (d .decimal .ensures) in (
       (search needs, d .decimal .kept .0 ∙ q .put .kept .0 ∙ l .loop .inv .0 .1),
       l .loop .inv .1 ∙ spaced-more i zs (page (l .loop .m) (l .loop .out)) (omega arith)
           ∙ ap (puts (spaced (drop (i + 1) zs))) (sym (e ∙ rw (q .put .ensures))),
@@ -82,13 +79,11 @@ returns c =
     let w = c .before .before in
     let l = w .before .before .before in
     let d = l .before .before .before in
-    let st = d .before .before .before in
-    let a = st .args in
-    let zs = take (a .count) (a .t3) in
-    let n : length zs ≡ a .count = length-take-le (a .count) (a .t3) (omega (arith, st .good, st .pre)) in
+    let a = d .before .before .before .args in
+    let zs = now (a .words) in
     w .put2 .ensures
     ∙ ap (put 10) (sym (l .loop .inv .1 ∙ spaced-done (l .loop .i) zs (page (l .loop .m) (l .loop .out)) (omega arith)))
-    ∙ ap (λ (p : Page). put 10 (puts (spaced zs) p)) (d .digits .ensures ∙ ap (λ (s : List ℕ). puts s (page (a .used) (now (a .out)))) (ap digits (sym n) ∙ digits-decimal (length zs)))
+    ∙ ap (λ (p : Page). put 10 (puts (spaced zs) p)) (d .digits .ensures ∙ ap (λ (s : List ℕ). puts s (page (a .used) (now (a .out)))) (digits-decimal (length zs)))
     ∙ section-puts zs (page (a .used) (now (a .out)))
 
 pub row-line-spec : {M : Type 1} → statement M
@@ -102,7 +97,7 @@ row-line-spec =
     loop-holds
     put-requires
     mul-decimal
-    array-copy-out-decimal
+    shared-slice-copy-out-decimal
     decimal-requires
     add-i
     loop-less
