@@ -14,7 +14,7 @@ fn next(seed: i32) -> i32 {
     rand(rand(seed))
 }
 
-// The next but `by`: one row's seed.
+// The seed of row number `by`.
 fn seed_of(seed: i32, by: usize) -> i32 {
     rand(seed.wrapping_add((by as i32).wrapping_mul(1640531527)))
 }
@@ -123,7 +123,7 @@ fn case_of(c: usize) -> Case {
         lag,
         delay,
         buf: 4 * l + if rewhitened { 0 } else { k * l },
-        first: k == 0 || (rewhitened && c % 2 == 1),
+        first: k == 0 || c % 7 == 3,
         rewhitened,
         shift: SHIFTS[c / 96 % 4],
         half_shift: HALF_SHIFTS[c / 96 % 4],
@@ -188,29 +188,30 @@ fn print_rows(ps: &[NSQ_del_dec_struct; 4], nsq: &silk_nsq_state, ltp: &[i32; 64
 }
 
 // ---- one case
-fn path(seed: i32, s: u32) -> NSQ_del_dec_struct {
+// `own` is the seed of the words that twins share.
+fn path(seed: i32, own: i32, s: u32) -> NSQ_del_dec_struct {
     // the generator's words are of one bit where words are short: so that paths share them now and then
     let states = if s > 0 { 31 } else { 0 };
     NSQ_del_dec_struct {
-        sLPC_Q14: words(seed_of(seed, 1), s),
+        sLPC_Q14: words(seed_of(own, 1), s),
         RandState: words(seed_of(seed, 2), states),
         Q_Q10: words(seed_of(seed, 3), s),
         Xq_Q14: words(seed_of(seed, 4), s),
         Pred_Q15: words(seed_of(seed, 5), s),
-        Shape_Q14: words(seed_of(seed, 6), s),
-        sAR2_Q14: words(seed_of(seed, 7), s),
-        LF_AR_Q14: word(seed_of(seed, 8), s),
-        Diff_Q14: word(seed_of(seed, 9), s),
-        Seed: word(seed_of(seed, 10), 0),
-        SeedInit: word(seed_of(seed, 11), s),
-        RD_Q10: word(seed_of(seed, 12), s),
+        Shape_Q14: words(seed_of(own, 6), s),
+        sAR2_Q14: words(seed_of(own, 7), s),
+        LF_AR_Q14: word(seed_of(own, 8), s),
+        Diff_Q14: word(seed_of(own, 9), s),
+        Seed: word(seed_of(own, 10), 0),
+        SeedInit: word(seed_of(own, 11), s),
+        RD_Q10: word(seed_of(own, 12), s),
     }
 }
 
 fn run(c: usize, seed: i32) {
     let f = case_of(c);
     let (s, h) = (f.shift, f.half_shift);
-    let mut ps = [1, 2, 3, 4].map(|k| path(seed_of(seed, k), s));
+    let mut ps = [1, 2, 3, 4].map(|k| path(seed_of(seed, k), seed_of(seed, if c % 5 == 4 { 1 } else { k }), s));
     let mut nsq: Box<silk_nsq_state> = unsafe { Box::new(std::mem::zeroed()) };
     nsq.xq = halves(seed_of(seed, 5), h);
     nsq.sLTP_shp_Q14 = words(seed_of(seed, 6), s);

@@ -63,6 +63,11 @@ pub fn number(c: usize) -> usize
     c * 5 / 3 % 4
 }
 
+// Whether the paths are twins.
+pub fn twins(c: usize) -> bool {
+    c % 5 == 4
+}
+
 pub fn voiced(c: usize) -> bool {
     c / 48 % 2 == 1
 }
@@ -117,10 +122,11 @@ fn delay(c: usize, lag: usize) -> usize
     }
 }
 
+// Subframe 0, and others too, so that the words that the work row keeps unscaled can be seen.
 fn first(c: usize) -> bool
     requires { ⌜ c < 384 ⌝ }
 {
-    number(c) == 0 || (rewhitened(c) && c % 2 == 1)
+    number(c) == 0 || c % 7 == 3
 }
 
 // Where the subframe starts in the work row: where the history ends, after it is rewhitened.

@@ -63,7 +63,7 @@ fn prepared(
 {
     let at = c * 7 % 40;
     let w = Work {
-        ps: rows::paths(seed, settings::shift(c)),
+        ps: rows::paths_of(c, seed),
         smpl_buf_idx: at,
     };
     if settings::rewhitened(c) {
@@ -128,8 +128,9 @@ fn run(c: usize, seed: i32, f: Fix)
     requires { ⌜ Fits f × (c < 384) ⌝ }
 {
     let s = settings::shift(c);
-    let mut lpc = rows::lpc(seed, s);
-    let mut ring = rows::rings(seed, s);
+    let twins = settings::twins(c);
+    let mut lpc = rows::lpc(seed, s, twins);
+    let mut ring = rows::rings(seed, s, twins);
     let mut ltp = words::words640(words::seed_of(seed, 7), s);
     let mut dgain = words::words40(words::seed_of(seed, 9), s);
     let mut xq = words::halves640(words::seed_of(seed, 5), settings::half_shift(c));

@@ -6,6 +6,9 @@ use Rattle.subframe_replay.proofs.subframe.run.Tie as tie
 shift-requires : tie.Need-shift-requires
 shift-requires c κs = search needs
 
+twins-requires : tie.Need-twins-requires
+twins-requires c κs = search needs
+
 lpc-requires : tie.Need-lpc-requires
 lpc-requires c κs = search needs
 
@@ -48,7 +51,7 @@ prepared-requires c κs = search needs
 quantised-requires : tie.Need-quantised-requires
 quantised-requires c κs =
     let q = c .before .before .before .before .before .before .before in
-    (q .before .before .before .before .before .before .before .before .before .before .before .before .before .before .before .before .before .before .pre .0, q .prepared .ensures)
+    (q .before .before .before .before .before .before .before .before .before .before .before .before .before .before .before .before .before .before .before .pre .0, q .prepared .ensures)
 
 print-paths-requires : tie.Need-print-paths-requires
 print-paths-requires c κs = search needs
@@ -64,6 +67,7 @@ run-spec =
     tie.close
     (tie.spec
     shift-requires
+    twins-requires
     lpc-requires
     rings-requires
     seed-of-requires
