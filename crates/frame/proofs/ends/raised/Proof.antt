@@ -1,0 +1,16 @@
+-- `frame::ends::raised` meets its contract. Assumes nothing.
+use borrow.Author.Needs.{needs}
+use Rattle.paths.proofs.Told.{path}
+use Rattle.frame.specs.Flush.{raisedPath}
+use Rattle.frame.proofs.ends.raised.Statement.{statement}
+use Rattle.frame.proofs.ends.raised.Tie as tie
+
+add32-requires : tie.Need-add32-requires
+add32-requires c κs = search needs
+
+returns : tie.Need-returns
+unfolding raisedPath
+returns c = simp (c .add32 .ensures, path (c .before .before .args .p) (c .before .struct-told .given) .rd)
+
+pub raised-spec : {M : Type 1} → statement M
+raised-spec = tie.close (tie.spec add32-requires returns)

@@ -1,0 +1,83 @@
+// One subframe of a frame.
+ghost use mathlib.Core.Path.{_≡_};
+ghost use Prim.Native.Nat.{_+_, _*_, _<_, _≤_};
+ghost use lib.ListN.{length};
+ghost use lib.IntN.{pos};
+ghost use lib.Signed.{_≤ℤ_};
+ghost use Rattle.paths.specs.Data.{rows, running};
+ghost use Rattle.paths.specs.Among.{keepsFirst};
+ghost use Rattle.paths.specs.Subframe.{Fits};
+ghost use Rattle.frame.specs.Frame.{Room, framedOf, step as stepZ};
+use crate::before;
+use paths::structs::Fix;
+use paths::structs::Halves;
+use paths::structs::Work;
+use paths::subframe::silk_noise_shape_quantizer_del_dec as samples;
+
+// A frame in work, but its rows: the paths, the filtered history, and the gain of the subframe before.
+pub struct Frame {
+    pub work: Work,
+    pub sLTP: [i16; 640],
+    pub prev: i32,
+}
+
+// What comes before a subframe's samples.
+pub struct Prior {
+    // whether it is the second one to be rewhitened, and the gain of the flush
+    pub again: bool,
+    pub gain1: i32,
+    // whether it is rewhitened, and by what
+    pub rewhite: bool,
+    pub inv: i32,
+}
+
+// A subframe, from the flush before it to its last sample.
+pub fn step(
+    t: Frame,
+    lpc: &mut [[i32; 96]; 4],
+    ring: &mut [[[i32; 40]; 5]; 4],
+    ltp: &mut [i32; 640],
+    dgain: &mut [i32; 40],
+    xq: &mut [i16; 640],
+    shp: &mut [i32; 640],
+    pulses: &mut [i8],
+    x: &[i16],
+    a: &[i16],
+    b: &[i16],
+    ar: &[i16],
+    f: Fix,
+    h: Halves,
+    p: Prior,
+) -> Frame
+    requires { ⌜ ((Fits f × Room f) × ((pos 1 ≤ℤ t .prev) × (pos 1 ≤ℤ f .«Gain_Q16»))) × ((((f .decisionDelay ≤ 2 * f .«subfr_length») × (2 * f .«subfr_length» ≤ length (now pulses))) × (t .work .«smpl_buf_idx» < 40)) × (((16 ≤ length (now a)) × (5 ≤ length (now b))) × ((24 ≤ length (now ar)) × ((f .base + f .«subfr_length» ≤ length (now x)) × (f .base + f .«subfr_length» ≤ length (now pulses)))))) ⌝ }
+    ensures { λ r. ⌜ (framedOf (running (r .work) (now (lpc .exit)) (now (ring .exit)) (now (ltp .exit)) (now (dgain .exit)) (now (xq .exit)) (now (shp .exit)) (now (pulses .exit))) (r .sLTP) (r .prev) ≡ stepZ keepsFirst f (rows (now (a .entry)) (now (b .entry)) (now (ar .entry)) h) (now (x .entry)) (p .again) (p .rewhite) (p .gain1) (p .inv) (framedOf (running (t .work) (now (lpc .entry)) (now (ring .entry)) (now (ltp .entry)) (now (dgain .entry)) (now (xq .entry)) (now (shp .entry)) (now (pulses .entry))) (t .sLTP) (t .prev))) × (r .work .«smpl_buf_idx» < 40) ⌝ }
+{
+    let w = t.work;
+    let sltp = t.sLTP;
+    let r = before::before(
+        w,
+        lpc,
+        ring,
+        ltp,
+        xq,
+        shp,
+        pulses,
+        sltp,
+        a,
+        f,
+        p.again,
+        p.rewhite,
+        p.gain1,
+        p.inv,
+        t.prev,
+    );
+    let u = r.work;
+    let row = r.sLTP;
+    let v = samples(u, lpc, ring, ltp, dgain, xq, shp, pulses, x, a, b, ar, f, h);
+    let gain = f.Gain_Q16;
+    Frame {
+        work: v,
+        sLTP: row,
+        prev: gain,
+    }
+}

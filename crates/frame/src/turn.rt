@@ -1,0 +1,81 @@
+// Subframe k of a frame: what it works with is read off the call, then it is coded.
+ghost use denote.Ref.{now};
+ghost use mathlib.Core.Path.{_≡_};
+ghost use Prim.Native.Nat.{_*_, _<_, _≤_};
+ghost use lib.ListN.{length};
+ghost use lib.IntN.{pos};
+ghost use lib.Signed.{_≤ℤ_};
+ghost use Rattle.paths.specs.Data.{running};
+ghost use Rattle.paths.specs.Among.{keepsFirst};
+ghost use Rattle.frame.specs.Call.{Sound, Stocked};
+ghost use Rattle.frame.specs.Frame.{framedOf, priorBy, turnBy};
+use crate::call;
+use crate::call::Given;
+use crate::step;
+use crate::step::Frame;
+use crate::step::Prior;
+
+// What comes before the samples of subframe k.
+fn prior_of(g: Given, gains: &[i32], k: usize) -> Prior
+    requires { ⌜ (1 < length (now gains)) × (k < length (now gains)) ⌝ }
+    ensures { λ r. ⌜ r ≡ priorBy g (now (gains .entry)) k ⌝ }
+{
+    let gain1 = gains[1];
+    let gain = gains[k];
+    Prior {
+        again: call::second(g, k),
+        gain1: gain1,
+        rewhite: call::rewhites(g, k),
+        inv: call::white_gain(g, gain, k),
+    }
+}
+
+// Subframe k.
+pub fn turn(
+    t: Frame,
+    lpc: &mut [[i32; 96]; 4],
+    ring: &mut [[[i32; 40]; 5]; 4],
+    ltp: &mut [i32; 640],
+    dgain: &mut [i32; 40],
+    xq: &mut [i16; 640],
+    shp: &mut [i32; 640],
+    pulses: &mut [i8],
+    x: &[i16],
+    pred: &[i16],
+    long: &[i16],
+    ar: &[i16],
+    tilt: &[i32],
+    harm: &[i32],
+    lf: &[i32],
+    gains: &[i32],
+    lags: &[i32],
+    g: Given,
+    k: usize,
+) -> Frame
+    requires { ⌜ ((Sound g (now lags) × Stocked g (now x) (now pred) (now long) (now ar) (now tilt) (now harm) (now lf) (now gains) (now lags)) × ((k < g .«nb_subfr») × (g .«nb_subfr» * g .«subfr_length» ≤ length (now pulses)))) × ((pos 1 ≤ℤ t .prev) × (t .work .«smpl_buf_idx» < 40)) ⌝ }
+    ensures { λ r. ⌜ (framedOf (running (r .work) (now (lpc .exit)) (now (ring .exit)) (now (ltp .exit)) (now (dgain .exit)) (now (xq .exit)) (now (shp .exit)) (now (pulses .exit))) (r .sLTP) (r .prev) ≡ turnBy keepsFirst g (now (x .entry)) (now (pred .entry)) (now (long .entry)) (now (ar .entry)) (now (tilt .entry)) (now (harm .entry)) (now (lf .entry)) (now (gains .entry)) (now (lags .entry)) k (framedOf (running (t .work) (now (lpc .entry)) (now (ring .entry)) (now (ltp .entry)) (now (dgain .entry)) (now (xq .entry)) (now (shp .entry)) (now (pulses .entry))) (t .sLTP) (t .prev))) × ((pos 1 ≤ℤ r .prev) × (r .work .«smpl_buf_idx» < 40)) ⌝ }
+{
+    let f = call::fix_of(g, lags, lf, gains, k);
+    let h = call::halves_of(g, tilt, harm, k);
+    let p = prior_of(g, gains, k);
+    let from = call::row_of(g, k) * 16;
+    let five = k * 5;
+    let two = k * 24;
+    step::step(
+        t,
+        lpc,
+        ring,
+        ltp,
+        dgain,
+        xq,
+        shp,
+        pulses,
+        x,
+        &pred[from..from + 16],
+        &long[five..five + 5],
+        &ar[two..two + 24],
+        f,
+        h,
+        p,
+    )
+}
