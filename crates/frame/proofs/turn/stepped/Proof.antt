@@ -17,8 +17,8 @@ part-is from m = omega arith
 part-long : (l : List ℤ) (from m : ℕ) → from + m ≤ length l → m ≤ length (take (from + m - from) (drop from l))
 part-long l from m h =
     rw (part-is from m) (
-        let k : m ≤ length (drop from l) = omega (arith, length-drop from l) in omega (arith, length-take-le m (drop from l) k)
-        )
+    let k : m ≤ length (drop from l) = omega (arith, length-drop from l) in omega (arith, length-take-le m (drop from l) k)
+    )
 
 add-step : tie.Need-add-step
 add-step c = search needs
@@ -70,16 +70,15 @@ step-requires c κs =
     let st = c .before .before .before .before .before .before .before .before .before .before in
     let a = st .args in
     let p = st .pre in
-    let rest = p .1 .1 in
-    (
+    let rest = p .1 .1 in (
       p .0,
       (
         p .1 .0,
         (
           (part-long (a .pred .now) (a .from) 16 (rest .0 .0), part-long (a .long .now) (a .five) 5 (rest .0 .1)),
-          (part-long (a .ar .now) (a .shape) 24 (rest .1 .0), rest .1 .1)
-        )
-      )
+          (part-long (a .ar .now) (a .shape) 24 (rest .1 .0), rest .1 .1),
+        ),
+      ),
     )
 
 same-length : tie.Need-same-length

@@ -41,12 +41,12 @@ stepped-requires c κs =
     let m = may-of (p .0 .0 .0) (p .0 .0 .1) (p .0 .1 .0) in
     let out = p .0 .1 .1 in
     rw (fix .fix-of .ensures, row .row-of .ensures) (
-        ((m .fits, m .room), (p .1 .0, m .gain)),
-        (
-          ((m .delay, omega (arith, m .two, out)), p .1 .1),
-          ((m .row, m .five), (m .shape, (m .samples, omega (arith, m .within, out))))
-        )
-        )
+      ((m .fits, m .room), (p .1 .0, m .gain)),
+      (
+        ((m .delay, omega (arith, m .two, out)), p .1 .1),
+        ((m .row, m .five), (m .shape, (m .samples, omega (arith, m .within, out)))),
+      ),
+    )
 
 same-length : tie.Need-same-length
 same-length c = search needs
