@@ -264,3 +264,24 @@ fits-of c k g h = fits-by (c .«LF_shp_Q14») (c .«Gains_Q16») (sound-of c g) 
 pub given-may : {s : Settings} {z : Sizes} {p gain : ℤ} {gains lags : List ℤ} → Good s z p gain gains lags
     → (natZ (s .signalType) ≤ 2) × ((natZ (s .quantOffsetType) ≤ 1) × (natZ (s .«nb_subfr») ≤ length lags))
 given-may g = let e = g .rows .lags in (g .settings .kind .most, (g .settings .offset .most, omega arith))
+
+-- its rows hold what the subframes read
+pub stocked-by : {s : Settings} {z : Sizes} {p gain : ℤ} {x pred ltp ar tilt harm lf gains lags : List ℤ} → Good s z p gain gains lags
+    → length x ≡ z .samples → length pred ≡ z .«pred_coef» → length ltp ≡ z .«ltp_coef» → length ar ≡ z .ar
+    → length tilt ≡ z .tilt → length harm ≡ z .«harm_gain» → length lf ≡ z .lf
+    → Stocked (givenBy s p lags) x pred ltp ar tilt harm lf gains lags
+unfolding givenBy
+stocked-by {s} {z} g x pred ltp ar tilt harm lf =
+    let r = g .rows in
+    record {
+      samples = let a = r .samples in omega arith;
+      predRows = let a = r .pred-coef in omega arith;
+      ltpRows = let a = r .ltp-coef in omega arith;
+      arRows = let a = r .ar in omega arith;
+      tilts = let a = r .tilt in omega arith;
+      harms = let a = r .harm-gain in omega arith;
+      lfs = let a = r .lf in omega arith;
+      gainWords = let a = r .gains in omega arith;
+      lagWords = let a = r .lags in omega arith;
+      each = g .gain .each;
+    }

@@ -1,0 +1,2 @@
+-- Ready: what a good call has, and the words of a state.
+pub mod Ready
