@@ -2,4 +2,5 @@
 // public function is `entry::silk_NSQ_del_dec`; it takes any call and asks for nothing.
 mod accepted;
 mod end;
+pub mod entry;
 mod run;
