@@ -1,2 +1,3 @@
--- Unique: each contract leaves one outcome.
+-- Ties: of paths that cost the same the lowest is found. Unique: each contract leaves one outcome.
+pub mod Ties
 pub mod Unique
