@@ -5,9 +5,9 @@ use mathlib.Core.List.{List}
 use Prim.Native.Nat.{_+_, _-_, _*_}
 use lib.IntN.{ℤ}
 use Rattle.fixed.specs.Iter.{either}
-use Rattle.paths.specs.declared.structs.Fix.{Fix}
-use Rattle.paths.specs.declared.structs.Work.{Work}
-use Rattle.paths.specs.Data.{Running, running}
+use Rattle.path.specs.declared.structs.Fix.{Fix}
+use Rattle.path.specs.declared.structs.Work.{Work}
+use Rattle.path.specs.Data.{Running, running}
 use Rattle.paths.specs.Scale.{filled}
 use Rattle.frame.specs.Frame.{rewhitenedAt, refilled, Whitened, whitenedOf, whitened, whitenedFirst, flushedFirst, regained, regainedLast, before}
 

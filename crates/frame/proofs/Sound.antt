@@ -13,7 +13,7 @@ use lib.Dec.{eqb, leb, ltb}
 use borrow.Author.Tests.{eqb-true, eqb-false, le-leb}
 use Rattle.fixed.proofs.Iters.{iter-keeps, iter-inv, either-all}
 use Rattle.silk.specs.declared.structs.Settings.{Settings}
-use Rattle.paths.specs.Data.{word}
+use Rattle.path.specs.Data.{word}
 use Rattle.paths.specs.Subframe.{Fits}
 use Rattle.refusals.specs.Count.{natZ, sameZ}
 use Rattle.refusals.specs.declared.answer.Sizes.{Sizes}

@@ -1,5 +1,5 @@
 -- What owning a Given tells of its signed fields: each is read back from its bits. Assumes nothing.
-use Rattle.paths.proofs.Told.{Told, Back}
+use Rattle.path.proofs.Told.{Told, Back}
 use mir.Syntax.{w32}
 use Rattle.fixed.proofs.Fit.{back}
 use Rattle.frame.specs.declared.call.Given.{Given}

@@ -6,9 +6,9 @@ use lib.ListN.{set, replicate}
 use lib.IntN.{ℤ, pos}
 use Rattle.fixed.specs.Iter.{iter}
 use Rattle.silk.specs.State.{zeros}
-use Rattle.paths.specs.declared.structs.Path.{Path}
-use Rattle.paths.specs.Data.{word, Paths, paths, ringShape}
-use Rattle.paths.specs.Among.{whole, pathSet}
+use Rattle.path.specs.declared.structs.Path.{Path}
+use Rattle.path.specs.Data.{word, Paths, paths, ringShape}
+use Rattle.path.specs.Taken.{whole, pathSet}
 
 -- ---- the four paths before any is begun
 -- a path of zeros

@@ -15,9 +15,9 @@ use Rattle.silk.specs.declared.structs.NsqState.{NsqState}
 use Rattle.silk.specs.Gains.{«inv_gain_Q31», «inv_gain_Q26», «ltp_scaled_inv_gain»}
 use Rattle.choice.specs.Offset.{offsetOf}
 use Rattle.shaping.specs.Harmonic.{packedGain}
-use Rattle.paths.specs.declared.structs.Fix.{Fix}
-use Rattle.paths.specs.declared.structs.Halves.{Halves}
-use Rattle.paths.specs.Data.{word, Rows, rows}
+use Rattle.path.specs.declared.structs.Fix.{Fix}
+use Rattle.path.specs.declared.structs.Halves.{Halves}
+use Rattle.path.specs.Data.{word, Rows, rows}
 use Rattle.refusals.specs.Count.{natZ, sameZ}
 use Rattle.frame.specs.declared.call.Given.{Given}
 

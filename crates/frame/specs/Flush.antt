@@ -11,9 +11,9 @@ use Rattle.fixed.specs.Iter.{iter, either}
 use Rattle.fixed.specs.Wrap.{wrap32}
 use Rattle.fixed.specs.Shift.{shr32}
 use Rattle.shaping.specs.Output.{pulseOf, xqOut}
-use Rattle.paths.specs.declared.structs.Path.{Path}
-use Rattle.paths.specs.Data.{word, noPath, paths, Running, ringQ, ringXq, ringShape}
-use Rattle.paths.specs.Among.{penalty}
+use Rattle.path.specs.declared.structs.Path.{Path}
+use Rattle.path.specs.Data.{word, noPath, paths, Running, ringQ, ringXq, ringShape}
+use Rattle.path.specs.Taken.{penalty}
 
 -- one path more in the search of the least running cost
 abbrev pub bestTurn : List Path → ℕ → ℕ → ℕ

@@ -9,10 +9,10 @@ use Rattle.silk.specs.State.{zeros}
 use Rattle.silk.specs.declared.structs.NsqState.{NsqState}
 use Rattle.silk.specs.Gains.{«gain_adj_Q16»}
 use Rattle.silk.specs.Filter.{analysis}
-use Rattle.paths.specs.declared.structs.Path.{Path}
-use Rattle.paths.specs.declared.structs.Fix.{Fix}
-use Rattle.paths.specs.Data.{word, noPath, Paths, paths, Core, Running, Rows}
-use Rattle.paths.specs.Among.{Rule}
+use Rattle.path.specs.declared.structs.Path.{Path}
+use Rattle.path.specs.declared.structs.Fix.{Fix}
+use Rattle.path.specs.Data.{word, noPath, Paths, paths, Core, Running, Rows}
+use Rattle.among.specs.Among.{Rule}
 use Rattle.paths.specs.Subframe.{subframe}
 use Rattle.paths.specs.Scale.{filled, scaled}
 use Rattle.refusals.specs.Count.{natZ, sameZ}

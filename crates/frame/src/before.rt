@@ -5,14 +5,14 @@ ghost use Prim.Native.Nat.{_*_, _<_, _≤_};
 ghost use lib.ListN.{length};
 ghost use lib.IntN.{ℤ, pos};
 ghost use lib.Signed.{_≤ℤ_};
-ghost use Rattle.paths.specs.Data.{running};
+ghost use Rattle.path.specs.Data.{running};
 ghost use Rattle.paths.specs.Subframe.{Fits};
 ghost use Rattle.frame.specs.Frame.{Room, whitenedOf, before as beforeZ};
 use crate::middle;
 use crate::regain;
 use crate::white;
-use paths::structs::Fix;
-use paths::structs::Work;
+use path::structs::Fix;
+use path::structs::Work;
 
 // A subframe's paths, and the filtered history.
 pub struct Ready {

@@ -3,10 +3,10 @@ ghost use mathlib.Core.Path.{_≡_};
 ghost use Prim.Native.Nat.{_<_, _≤_};
 ghost use lib.ListN.{replicate};
 ghost use Rattle.silk.specs.State.{zeros};
-ghost use Rattle.paths.specs.Data.{paths};
+ghost use Rattle.path.specs.Data.{paths};
 ghost use Rattle.frame.specs.Begin.{zeroPath, zeroLpcs, zeroRings, ownFrom, startLpc, startRings, begun};
-use paths::structs::Path;
-use paths::structs::SHAPE_Q14;
+use path::structs::Path;
+use path::structs::SHAPE_Q14;
 
 // The work row, `sLTP_Q15`.
 pub fn zero_work() -> [i32; 640]

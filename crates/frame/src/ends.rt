@@ -8,10 +8,10 @@ ghost use Rattle.fixed.specs.Iter.{either};
 ghost use Rattle.frame.specs.Flush.{bestOf, raisedPath, otherPath, othersRaised, fitMiddle, fitLast, flushed as flushedZ, outs};
 use fixed::shift;
 use fixed::wrap;
-use paths::structs::Path;
-use paths::structs::Q_Q10;
-use paths::structs::SHAPE_Q14;
-use paths::structs::XQ_Q14;
+use path::structs::Path;
+use path::structs::Q_Q10;
+use path::structs::SHAPE_Q14;
+use path::structs::XQ_Q14;
 use shaping::output;
 
 // The path of least running cost, the lowest on ties.

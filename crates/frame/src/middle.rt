@@ -4,12 +4,12 @@ ghost use Prim.Native.Nat.{_+_, _*_, _<_, _≤_};
 ghost use lib.ListN.{length};
 ghost use mathlib.Core.List.{List};
 ghost use lib.IntN.{ℤ};
-ghost use Rattle.paths.specs.Data.{running};
+ghost use Rattle.path.specs.Data.{running};
 ghost use Rattle.paths.specs.Subframe.{Fits};
 ghost use Rattle.frame.specs.Frame.{middleBy, flushedFirst};
 use crate::ends;
-use paths::structs::Fix;
-use paths::structs::Work;
+use path::structs::Fix;
+use path::structs::Work;
 
 // The winner's last d samples handed out after 2 * l samples, by the gain of subframe 1; every other path gets the penalty.
 fn middle(

@@ -3,12 +3,12 @@ ghost use mathlib.Core.Path.{_≡_};
 ghost use mathlib.Core.List.{List};
 ghost use lib.IntN.{ℤ, pos};
 ghost use lib.Signed.{_≤ℤ_};
-ghost use Rattle.paths.specs.Data.{running};
+ghost use Rattle.path.specs.Data.{running};
 ghost use Rattle.paths.specs.Subframe.{Fits};
 ghost use Rattle.frame.specs.Frame.{regained as regainedZ};
+use path::structs::Fix;
+use path::structs::Work;
 use paths::scale;
-use paths::structs::Fix;
-use paths::structs::Work;
 use silk::gains;
 
 // The paths, the work row and the shaping words at the subframe's gain; `prev` is the gain before.

@@ -4,14 +4,14 @@ ghost use Prim.Native.Nat.{_+_, _*_, _<_, _≤_};
 ghost use lib.ListN.{length};
 ghost use lib.IntN.{pos};
 ghost use lib.Signed.{_≤ℤ_};
-ghost use Rattle.paths.specs.Data.{rows, running};
-ghost use Rattle.paths.specs.Among.{keepsFirst};
+ghost use Rattle.path.specs.Data.{rows, running};
+ghost use Rattle.among.specs.Among.{keepsFirst};
 ghost use Rattle.paths.specs.Subframe.{Fits};
 ghost use Rattle.frame.specs.Frame.{Room, framedOf, step as stepZ};
 use crate::before;
-use paths::structs::Fix;
-use paths::structs::Halves;
-use paths::structs::Work;
+use path::structs::Fix;
+use path::structs::Halves;
+use path::structs::Work;
 use paths::subframe::silk_noise_shape_quantizer_del_dec as samples;
 
 // A frame in work, but its rows: the paths, the filtered history, and the gain of the subframe before.

@@ -5,8 +5,8 @@ ghost use Prim.Native.Nat.{_+_, _*_, _<_, _≤_};
 ghost use lib.ListN.{length, take, drop};
 ghost use lib.IntN.{pos};
 ghost use lib.Signed.{_≤ℤ_};
-ghost use Rattle.paths.specs.Data.{rows, running};
-ghost use Rattle.paths.specs.Among.{keepsFirst};
+ghost use Rattle.path.specs.Data.{rows, running};
+ghost use Rattle.among.specs.Among.{keepsFirst};
 ghost use Rattle.paths.specs.Subframe.{Fits};
 ghost use Rattle.frame.specs.Call.{Sound, Stocked};
 ghost use Rattle.frame.specs.Frame.{Room, framedOf, stepBy, priorBy, turnBy};
@@ -15,8 +15,8 @@ use crate::call::Given;
 use crate::step;
 use crate::step::Frame;
 use crate::step::Prior;
-use paths::structs::Fix;
-use paths::structs::Halves;
+use path::structs::Fix;
+use path::structs::Halves;
 
 // What comes before the samples of subframe k.
 fn prior_of(g: Given, gains: &[i32], k: usize) -> Prior

@@ -6,8 +6,8 @@ ghost use Rattle.paths.specs.Scale.{filled};
 ghost use Rattle.paths.specs.Subframe.{Fits};
 ghost use lib.ListN.{length};
 ghost use Rattle.frame.specs.Frame.{rewhitened as rewhitenedZ, rewhitenedAt, Room};
+use path::structs::Fix;
 use paths::scale;
-use paths::structs::Fix;
 use silk::lpc_analysis_filter;
 
 // The history from `from` on, m words, filtered into the row from `start` on; the words before stay.

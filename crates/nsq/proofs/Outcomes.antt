@@ -5,7 +5,7 @@ use mathlib.Core.Path.{_≡_, refl}
 use mathlib.Core.List.{List}
 use lib.IntN.{ℤ}
 use borrow.Author.Tests.{ne-eqb}
-use Rattle.paths.specs.Among.{Rule}
+use Rattle.among.specs.Among.{Rule}
 use Rattle.refusals.specs.declared.answer.Answer.{Answer}
 use Rattle.refusals.specs.Code.{codeOf}
 use Rattle.frame.specs.Call.{Call}

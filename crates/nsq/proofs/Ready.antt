@@ -10,7 +10,7 @@ use Rattle.fixed.proofs.Fit.{back}
 use Rattle.silk.specs.declared.structs.NsqState.{NsqState}
 use Rattle.silk.proofs.structs.NsqState as state-type
 use Rattle.silk.proofs.structs.NsqState.Laws as state-laws
-use Rattle.paths.proofs.Told.{Told, Back}
+use Rattle.path.proofs.Told.{Told, Back}
 use Rattle.refusals.specs.Good.{Good}
 use Rattle.frame.specs.Call.{Call, givenOf, countOf, lengthOf, Sound, Stocked}
 use Rattle.frame.proofs.Sound.{sound-of, stocked-by, counts}

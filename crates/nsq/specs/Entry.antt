@@ -7,7 +7,7 @@ use lib.IntN.{ℤ}
 use lib.Dec.{eqb}
 use Rattle.fixed.specs.Iter.{either}
 use Rattle.silk.specs.declared.structs.NsqState.{NsqState}
-use Rattle.paths.specs.Among.{Rule}
+use Rattle.among.specs.Among.{Rule}
 use Rattle.refusals.specs.declared.answer.Answer.{Answer}
 use Rattle.refusals.specs.declared.answer.Sizes.{Sizes}
 use Rattle.refusals.specs.Code.{codeOf}

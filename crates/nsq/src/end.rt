@@ -6,7 +6,7 @@ ghost use Prim.Native.Nat.{_+_, _-_, _*_, _<_, _≤_};
 ghost use lib.ListN.{length};
 ghost use lib.IntN.{ℤ, pos};
 ghost use Rattle.fixed.specs.Iter.{either};
-ghost use Rattle.paths.specs.Data.{running};
+ghost use Rattle.path.specs.Data.{running};
 ghost use Rattle.frame.specs.Call.{sinceBy, rewhitesBy};
 ghost use Rattle.frame.specs.Frame.{framedOf, leftBy, doneOf, endedBy};
 use frame::call;
@@ -14,7 +14,7 @@ use frame::call::Given;
 use frame::ends;
 use frame::step::Frame;
 use frame::tail;
-use paths::structs::Path;
+use path::structs::Path;
 use silk::structs::NsqState;
 
 // What an accepted call hands back beside its pulses.

@@ -1,7 +1,7 @@
 // The call: document 01's refusals, then the frame.
 ghost use denote.Ref.{now};
 ghost use mathlib.Core.Path.{_≡_};
-ghost use Rattle.paths.specs.Among.{keepsFirst};
+ghost use Rattle.among.specs.Among.{keepsFirst};
 ghost use Rattle.frame.specs.Call.{callOf};
 ghost use Rattle.nsq.specs.Entry.{outcomeOf, outcome};
 use crate::accepted;

@@ -6,7 +6,7 @@ use native.Mathlib.Omega.{arith}
 use borrow.Author.Tests.{leb-true}
 use lib.Dec.{leb}
 use Rattle.fixed.specs.Iter.{either}
-use Rattle.paths.specs.declared.structs.Fix.{Fix}
+use Rattle.path.specs.declared.structs.Fix.{Fix}
 use Rattle.paths.specs.Subframe.{Fits, leaves}
 
 -- where a sample leaves, its place is not before the frame's start

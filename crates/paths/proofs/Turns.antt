@@ -7,12 +7,13 @@ use lib.IntN.{ℤ}
 use lib.ListN.{set}
 use Rattle.fixed.specs.Shift.{shr32}
 use Rattle.shaping.specs.Output.{pulseOf, xqOut}
-use Rattle.paths.specs.declared.structs.Fix.{Fix}
-use Rattle.paths.specs.declared.structs.Common.{Common}
-use Rattle.paths.specs.declared.structs.Sampled.{Sampled}
-use Rattle.paths.specs.Data.{word, Running, running, Rows}
-use Rattle.paths.specs.Among.{Rule, Settled, settledOf}
-use Rattle.paths.specs.Sample.{sample}
+use Rattle.path.specs.declared.structs.Fix.{Fix}
+use Rattle.path.specs.declared.structs.Common.{Common}
+use Rattle.path.specs.declared.structs.Sampled.{Sampled}
+use Rattle.path.specs.Data.{word, Running, running, Rows}
+use Rattle.among.specs.Among.{Rule}
+use Rattle.samples.specs.Settled.{Settled, settledOf}
+use Rattle.samples.specs.Sample.{sample}
 use Rattle.paths.specs.Subframe.{down, predicted, commonFrom, common, delayed, tookFrom, took, leaves, emit, putAt, put, turn}
 
 -- what is written, row by row

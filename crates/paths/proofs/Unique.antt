@@ -4,8 +4,8 @@ use mathlib.Core.Path.{_≡_, sym, _∙_, ap}
 use mathlib.Core.List.{List, []}
 use lib.IntN.{ℤ}
 use denote.Ref.{now}
-use Rattle.paths.specs.declared.structs.Work.{Work}
-use Rattle.paths.specs.Data.{Running, running}
+use Rattle.path.specs.declared.structs.Work.{Work}
+use Rattle.path.specs.Data.{Running, running}
 use Rattle.paths.proofs.scale.filled.Reads as filled
 use Rattle.paths.proofs.scale.silk_nsq_del_dec_scale_states.Reads as scale-states
 use Rattle.paths.proofs.subframe.silk_noise_shape_quantizer_del_dec.Reads as del-dec

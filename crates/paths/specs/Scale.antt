@@ -1,16 +1,16 @@
 -- The change of gain before a subframe: silk_nsq_del_dec_scale_states of NSQ_del_dec.rs, but its scaling of the input, which stands at the sample
 -- (`common` of Subframe), and its inverse gains, which are those of the crate `silk`. Assumes nothing.
 use Prim.Native.Nat.{ℕ, _+_, _-_, _*_}
-use mathlib.Core.Bool.{Bool, true, false}
-use mathlib.Core.List.{List, []}
-use lib.ListN.{getD, set}
+use mathlib.Core.Bool.{Bool}
+use mathlib.Core.List.{List}
+use lib.ListN.{set}
 use lib.IntN.{ℤ}
 use Rattle.fixed.specs.Iter.{iter, either}
-use Rattle.fixed.specs.Product.{smulwb, smulww}
-use Rattle.paths.specs.declared.structs.Path.{Path}
-use Rattle.paths.specs.declared.structs.Fix.{Fix}
-use Rattle.paths.specs.Data.{word, noPath, Paths, paths, Core, Running, ringPred, ringShape}
-use Rattle.paths.specs.Among.{Whole, whole, pathAt, pathSet}
+use Rattle.fixed.specs.Product.{smulwb}
+use Rattle.path.specs.declared.structs.Fix.{Fix}
+use Rattle.path.specs.Data.{word, Paths, Running}
+use Rattle.path.specs.Taken.{pathAt, pathSet}
+use Rattle.path.specs.Scaled.{scaledWords, scaledPath}
 
 -- ---- a rewhitened subframe: the work row from the filtered history
 -- word a + j of the work row: (inv * sLTP[a + j]) >> 16
@@ -22,35 +22,6 @@ unfoldable pub filled : ℤ → List ℤ → ℕ → ℕ → List ℤ → List �
 filled inv sLTP a m row = iter (fillTurn inv sLTP a) m row
 
 -- ---- the words that a change of gain scales
--- word a + j of a row: (gain_adj_Q16 * word) >> 16
-abbrev pub scaleTurn : ℤ → ℕ → ℕ → List ℤ → List ℤ
-scaleTurn adj a j row = set row (a + j) (smulww adj (word row (a + j)))
-
--- m words from word a on
-unfoldable pub scaledWords : ℤ → ℕ → ℕ → List ℤ → List ℤ
-scaledWords adj a m row = iter (scaleTurn adj a) m row
-
--- the short words of a path: both scalars, all 24 filter words
-unfoldable pub scaledOwn : ℤ → Path → Path
-scaledOwn adj p =
-    record {
-      «sAR2_Q14» = scaledWords adj 0 24 (p .«sAR2_Q14»);
-      «LF_AR_Q14» = smulww adj (p .«LF_AR_Q14»);
-      «Diff_Q14» = smulww adj (p .«Diff_Q14»);
-      «Seed» = p .«Seed»;
-      «SeedInit» = p .«SeedInit»;
-      «RD_Q10» = p .«RD_Q10»;
-    }
-
--- ring f, whole
-abbrev pub scaledRing : ℤ → ℕ → List (List ℤ) → List (List ℤ)
-scaledRing adj f ring = set ring f (scaledWords adj 0 40 (getD ring f []))
-
--- a path: its short words, LPC words 0 to 15, both rings Pred_Q15 and Shape_Q14
-unfoldable pub scaledPath : ℤ → Whole → Whole
-scaledPath adj w =
-    whole (scaledOwn adj (w .own)) (scaledWords adj 0 16 (w .lpc)) (scaledRing adj ringShape (scaledRing adj ringPred (w .ring)))
-
 -- path k
 abbrev pub scalePathTurn : ℤ → ℕ → Paths → Paths
 scalePathTurn adj k p = pathSet p k (scaledPath adj (pathAt p k))

@@ -14,11 +14,12 @@ use Rattle.silk.specs.Gains.{«x_sc_Q10»}
 use Rattle.shaping.specs.Taps.{longPrediction}
 use Rattle.shaping.specs.Harmonic.{ltpTerm}
 use Rattle.shaping.specs.Output.{pulseOf, xqOut}
-use Rattle.paths.specs.declared.structs.Fix.{Fix}
-use Rattle.paths.specs.declared.structs.Common.{Common}
-use Rattle.paths.specs.Data.{word, Paths, paths, Core, Running, Rows}
-use Rattle.paths.specs.Among.{Rule, Settled}
-use Rattle.paths.specs.Sample.{sample}
+use Rattle.path.specs.declared.structs.Fix.{Fix}
+use Rattle.path.specs.declared.structs.Common.{Common}
+use Rattle.path.specs.Data.{word, Paths, paths, Core, Running, Rows}
+use Rattle.among.specs.Among.{Rule}
+use Rattle.samples.specs.Settled.{Settled}
+use Rattle.samples.specs.Sample.{sample}
 
 -- the ring's place goes down by one, 0 to 39
 unfoldable pub down : ℕ → ℕ

@@ -1,19 +1,17 @@
 // The change of gain before a subframe: `silk_nsq_del_dec_scale_states`.
 ghost use mathlib.Core.Path.{_≡_};
-ghost use Prim.Native.Nat.{_+_, _-_, _*_, _<_, _≤_};
-ghost use lib.ListN.{length};
+ghost use Prim.Native.Nat.{_+_, _≤_};
 ghost use mathlib.Core.List.{List};
 ghost use lib.IntN.{ℤ};
-ghost use Rattle.paths.specs.Data.{paths, running};
-ghost use Rattle.paths.specs.Among.{whole};
+ghost use Rattle.path.specs.Data.{paths, running};
 ghost use Rattle.paths.specs.Subframe.{Fits};
-ghost use Rattle.paths.specs.Scale.{filled as filledZ, scaledWords, scaledPath, scaledPaths, scaledWork, scaled as scaledZ};
-use crate::structs::Fix;
-use crate::structs::PRED_Q15;
-use crate::structs::Path;
-use crate::structs::SHAPE_Q14;
-use crate::structs::Work;
+ghost use Rattle.path.specs.Scaled.{scaledWords};
+ghost use Rattle.paths.specs.Scale.{filled as filledZ, scaledPaths, scaledWork, scaled as scaledZ};
 use fixed::product;
+use path::scaled;
+use path::structs::Fix;
+use path::structs::Path;
+use path::structs::Work;
 
 // The words a .. a + m of the work row from those of the filtered history, each times the inverse gain.
 pub fn filled(row: &mut [i32; 640], sltp: &[i16; 640], inv: i32, a: usize, m: usize)
@@ -22,38 +20,6 @@ pub fn filled(row: &mut [i32; 640], sltp: &[i16; 640], inv: i32, a: usize, m: us
 {
     for j in 0..m {
         row[a + j] = product::smulwb(inv, sltp[a + j]);
-    }
-}
-
-// The words a .. a + m of a row times the change of gain.
-fn scaled_words(row: &mut [i32], adj: i32, a: usize, m: usize)
-    requires { ⌜ a + m ≤ length (now row) ⌝ }
-    ensures { λ _. ⌜ now (row .exit) ≡ scaledWords adj a m (now (row .entry)) ⌝ }
-{
-    for j in 0..m {
-        row[a + j] = product::smulww(adj, row[a + j]);
-    }
-}
-
-// All filter words of a path.
-fn scaled_filter(words: &mut [i32; 24], adj: i32)
-    ensures { λ _. ⌜ now (words .exit) ≡ scaledWords adj 0 24 (now (words .entry)) ⌝ }
-{
-    scaled_words(words, adj, 0, 24);
-}
-
-impl Path {
-    // A path with all its words, scaled.
-    fn scaled(mut self, lpc: &mut [i32; 96], ring: &mut [[i32; 40]; 5], adj: i32) -> Self
-        ensures { λ r. ⌜ whole r (now (lpc .exit)) (now (ring .exit)) ≡ scaledPath adj (whole self (now (lpc .entry)) (now (ring .entry))) ⌝ }
-    {
-        self.LF_AR_Q14 = product::smulww(adj, self.LF_AR_Q14);
-        self.Diff_Q14 = product::smulww(adj, self.Diff_Q14);
-        scaled_words(lpc, adj, 0, 16);
-        scaled_filter(&mut self.sAR2_Q14, adj);
-        scaled_words(&mut ring[PRED_Q15], adj, 0, 40);
-        scaled_words(&mut ring[SHAPE_Q14], adj, 0, 40);
-        self
     }
 }
 
@@ -86,7 +52,7 @@ fn scaled_work(ltp: &mut [i32; 640], f: Fix, rewhitened: bool, adj: i32)
             return;
         }
         let a = f.buf - f.lag - 2;
-        scaled_words(ltp, adj, a, f.buf - f.decisionDelay - a);
+        scaled::scaled_words(ltp, adj, a, f.buf - f.decisionDelay - a);
     }
 }
 
@@ -105,7 +71,7 @@ pub fn silk_nsq_del_dec_scale_states(
     ensures { λ r. ⌜ ((dgain xq out : List ℤ) → running r (now (lpc .exit)) (now (ring .exit)) (now (ltp .exit)) dgain xq (now (shp .exit)) out ≡ scaledZ f rewhitened adj (running w (now (lpc .entry)) (now (ring .entry)) (now (ltp .entry)) dgain xq (now (shp .entry)) out)) × (r .«smpl_buf_idx» ≡ w .«smpl_buf_idx») ⌝ }
 {
     let ps = w.ps;
-    scaled_words(shp, adj, f.base, 4 * f.subfr_length);
+    scaled::scaled_words(shp, adj, f.base, 4 * f.subfr_length);
     scaled_work(ltp, f, rewhitened, adj);
     let qs = scaled_paths(ps, lpc, ring, adj, f.nStates);
     Work {

@@ -2,13 +2,13 @@
 ghost use mathlib.Core.Path.{_≡_};
 ghost use Prim.Native.Nat.{_+_, _<_, _≤_};
 ghost use lib.ListN.{length};
-ghost use Rattle.paths.specs.Data.{rows, running};
-ghost use Rattle.paths.specs.Among.{keepsFirst};
+ghost use Rattle.path.specs.Data.{rows, running};
+ghost use Rattle.among.specs.Among.{keepsFirst};
 ghost use Rattle.paths.specs.Subframe.{Fits, backed, backs as backsZ, subframe as subframeZ};
-use crate::structs::Fix;
-use crate::structs::Halves;
-use crate::structs::Work;
 use crate::turn;
+use path::structs::Fix;
+use path::structs::Halves;
+use path::structs::Work;
 
 // The last 16 LPC words of a path, behind l samples, move to the front.
 fn moved_back(w: &mut [i32; 96], l: usize)

@@ -1,7 +1,7 @@
 // Digests of rows: FNV-1a of 32 bits, a word at a time.
 ghost use Prim.Native.Nat.{_<_};
 use fixed::wrap;
-use paths::structs::Path;
+use path::structs::Path;
 
 const START: u32 = 2166136261;
 

@@ -4,7 +4,7 @@ ghost use mathlib.Core.Path.{_≡_};
 ghost use mathlib.Core.Bool.{true, false};
 ghost use Prim.Native.Nat.{_+_, _*_, _<_, _≤_};
 ghost use Rattle.paths.specs.Subframe.{Fits};
-use paths::structs::Fix;
+use path::structs::Fix;
 
 // The orders and the number of paths.
 fn orders(f: Fix) -> bool

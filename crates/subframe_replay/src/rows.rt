@@ -2,7 +2,7 @@
 // the same costs, so that the winner is among equals.
 use crate::settings;
 use crate::words;
-use paths::structs::Path;
+use path::structs::Path;
 
 // The seed of path k.
 fn own_seed(seed: i32, k: i32, twins: bool) -> i32 {

@@ -3,8 +3,8 @@ ghost use Prim.Native.Nat.{_<_, _≤_};
 ghost use lib.IntN.{pos};
 ghost use lib.Signed.{_≤ℤ_};
 use crate::words;
-use paths::structs::Fix;
-use paths::structs::Halves;
+use path::structs::Fix;
+use path::structs::Halves;
 
 const SHAPINGS: [usize; 4] = [2, 12, 16, 24];
 

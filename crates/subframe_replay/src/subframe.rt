@@ -6,9 +6,9 @@ use crate::fits;
 use crate::rows;
 use crate::settings;
 use crate::words;
+use path::structs::Fix;
+use path::structs::Work;
 use paths::scale;
-use paths::structs::Fix;
-use paths::structs::Work;
 use paths::subframe;
 use silk::gains;
 

@@ -4,7 +4,7 @@ use native.Mathlib.Omega.{arith}
 use borrow.Author.Needs.{needs}
 use denote.Ref.{now}
 use Rattle.fixed.proofs.Fit.{read}
-use Rattle.paths.specs.Data.{running}
+use Rattle.path.specs.Data.{running}
 use Rattle.frame.proofs.Befores.{before-is}
 use Rattle.frame.proofs.before.before.Statement.{statement}
 use Rattle.frame.proofs.before.before.Tie as tie

@@ -8,7 +8,7 @@ use mir.Val.{toZ}
 use Rattle.fixed.proofs.Fit.{read}
 use Rattle.fixed.specs.Iter.{iter}
 use Rattle.fixed.proofs.Iters.{iter-more}
-use Rattle.paths.specs.Data.{paths}
+use Rattle.path.specs.Data.{paths}
 use Rattle.frame.specs.Begin.{begun, beginTurn}
 use Rattle.frame.proofs.begin.start_paths.Statement.{statement}
 use Rattle.frame.proofs.begin.start_paths.Tie as tie

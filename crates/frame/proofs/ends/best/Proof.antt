@@ -7,8 +7,8 @@ use borrow.Author.Needs.{needs}
 use lib.ListN.{getD}
 use Rattle.fixed.specs.Iter.{iter}
 use Rattle.fixed.proofs.Iters.{iter-more}
-use Rattle.paths.specs.Data.{noPath}
-use Rattle.paths.proofs.Told.{path}
+use Rattle.path.specs.Data.{noPath}
+use Rattle.path.proofs.Told.{path}
 use Rattle.frame.specs.Flush.{bestOf, bestTurn}
 use Rattle.frame.proofs.ends.best.Statement.{statement}
 use Rattle.frame.proofs.ends.best.Tie as tie

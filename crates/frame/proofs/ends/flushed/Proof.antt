@@ -12,7 +12,7 @@ use mir.Val.{toZ}
 use Rattle.fixed.proofs.Fit.{back, read}
 use Rattle.fixed.specs.Iter.{iter, either}
 use Rattle.fixed.proofs.Iters.{iter-more}
-use Rattle.paths.specs.Data.{word, ringQ, ringXq, ringShape}
+use Rattle.path.specs.Data.{word, ringQ, ringXq, ringShape}
 use Rattle.frame.specs.Flush.{flushed, flushTurn, flushAt, outs, fitMiddle, fitLast}
 use Rattle.frame.proofs.ends.flushed.Statement.{statement}
 use Rattle.frame.proofs.ends.flushed.Tie as tie

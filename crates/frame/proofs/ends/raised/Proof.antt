@@ -1,6 +1,6 @@
 -- `frame::ends::raised` meets its contract. Assumes nothing.
 use borrow.Author.Needs.{needs}
-use Rattle.paths.proofs.Told.{path}
+use Rattle.path.proofs.Told.{path}
 use Rattle.frame.specs.Flush.{raisedPath}
 use Rattle.frame.proofs.ends.raised.Statement.{statement}
 use Rattle.frame.proofs.ends.raised.Tie as tie

@@ -7,7 +7,7 @@ use borrow.Author.Needs.{needs}
 use denote.Ref.{now}
 use lib.IntN.{ℤ}
 use Rattle.fixed.proofs.Fit.{read}
-use Rattle.paths.specs.Data.{Running, running}
+use Rattle.path.specs.Data.{Running, running}
 use Rattle.frame.specs.Flush.{Outs}
 use Rattle.frame.specs.Frame.{middleBy, middleWith, afterMiddle, flushedRun}
 use Rattle.frame.proofs.middle.middle.Statement.{statement}

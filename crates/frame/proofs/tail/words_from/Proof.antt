@@ -7,7 +7,7 @@ use mir.Syntax.{w32}
 use Rattle.fixed.proofs.Fit.{back}
 use Rattle.fixed.specs.Iter.{iter}
 use Rattle.fixed.proofs.Iters.{iter-more}
-use Rattle.paths.specs.Data.{word}
+use Rattle.path.specs.Data.{word}
 use Rattle.frame.specs.Frame.{wordsFrom, wordsTurn}
 use Rattle.frame.proofs.tail.words_from.Statement.{statement}
 use Rattle.frame.proofs.tail.words_from.Tie as tie

@@ -8,8 +8,8 @@ use denote.Ref.{now}
 use Rattle.fixed.specs.Iter.{iter}
 use Rattle.fixed.proofs.Fit.{got32}
 use Rattle.silk.specs.State.{zeros}
-use Rattle.paths.specs.Among.{keepsFirst}
-use Rattle.paths.specs.Data.{Paths}
+use Rattle.among.specs.Among.{keepsFirst}
+use Rattle.path.specs.Data.{Paths}
 use Rattle.frame.specs.Call.{Call, callOf, countOf}
 use Rattle.frame.specs.Frame.{Framed, Done, start, startPaths, subframeTurn, run, ended, frame}
 use Rattle.frame.proofs.Sound.{counts}

@@ -5,7 +5,7 @@ use native.Mathlib.Omega.{arith}
 use borrow.Author.Needs.{needs}
 use denote.Ref.{now}
 use Rattle.fixed.proofs.Fit.{got32}
-use Rattle.paths.specs.Data.{word}
+use Rattle.path.specs.Data.{word}
 use Rattle.frame.specs.Frame.{Framed, Done, endedBy}
 use Rattle.nsq.proofs.accepted.rest.Statement.{statement}
 use Rattle.nsq.proofs.accepted.rest.Tie as tie

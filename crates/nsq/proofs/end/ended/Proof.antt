@@ -9,8 +9,8 @@ use denote.Ref.{now}
 use lib.ListN.{getD}
 use mir.Syntax.{w32}
 use Rattle.fixed.proofs.Fit.{read, back}
-use Rattle.paths.specs.Data.{noPath, running}
-use Rattle.paths.proofs.Told.{path}
+use Rattle.path.specs.Data.{noPath, running}
+use Rattle.path.proofs.Told.{path}
 use Rattle.frame.specs.Flush.{Outs}
 use Rattle.frame.specs.Frame.{framedOf, flushedRun, Done, handedOut, endedWith, endedBy}
 use Rattle.nsq.proofs.end.ended.Statement.{statement}

@@ -2,7 +2,7 @@
 use mathlib.Core.Path.{_∙_}
 use borrow.Author.Needs.{needs}
 use Rattle.fixed.proofs.Fit.{read, got32}
-use Rattle.paths.proofs.Told.{path}
+use Rattle.path.proofs.Told.{path}
 use Rattle.frame.specs.Frame.{leftBy}
 use Rattle.nsq.proofs.end.left.Statement.{statement}
 use Rattle.nsq.proofs.end.left.Tie as tie

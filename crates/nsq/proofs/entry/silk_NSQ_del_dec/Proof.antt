@@ -4,7 +4,7 @@ use borrow.Author.Needs.{needs}
 use denote.Ref.{now}
 use mir.Syntax.{w32}
 use Rattle.fixed.proofs.Fit.{back}
-use Rattle.paths.specs.Among.{keepsFirst}
+use Rattle.among.specs.Among.{keepsFirst}
 use Rattle.refusals.specs.declared.answer.Answer.{Answer}
 use Rattle.refusals.specs.Code.{codeOf}
 use Rattle.refusals.proofs.Matched.{tag-code, code-refused, good-matched}

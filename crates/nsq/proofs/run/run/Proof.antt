@@ -9,8 +9,8 @@ use lib.ListN.{length}
 use lib.Signed.{_≤ℤ_}
 use Rattle.fixed.specs.Iter.{iter}
 use Rattle.fixed.proofs.Iters.{iter-more}
-use Rattle.paths.specs.Data.{running}
-use Rattle.paths.specs.Among.{keepsFirst}
+use Rattle.path.specs.Data.{running}
+use Rattle.among.specs.Among.{keepsFirst}
 use Rattle.frame.specs.Frame.{Framed, framedOf, turnBy}
 use Rattle.nsq.proofs.run.run.Statement.{statement}
 use Rattle.nsq.proofs.run.run.Tie as tie

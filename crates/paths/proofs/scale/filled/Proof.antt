@@ -9,7 +9,7 @@ use mir.Val.{toZ}
 use Rattle.fixed.proofs.Fit.{back, got32, read}
 use Rattle.fixed.specs.Iter.{iter}
 use Rattle.fixed.proofs.Iters.{iter-more}
-use Rattle.paths.specs.Data.{word}
+use Rattle.path.specs.Data.{word}
 use Rattle.paths.specs.Scale.{filled, fillTurn}
 use Rattle.paths.proofs.scale.filled.Statement.{statement}
 use Rattle.paths.proofs.scale.filled.Tie as tie

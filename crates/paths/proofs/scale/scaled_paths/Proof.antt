@@ -9,8 +9,8 @@ use denote.Ref.{now}
 use Rattle.fixed.proofs.Fit.{read}
 use Rattle.fixed.specs.Iter.{iter}
 use Rattle.fixed.proofs.Iters.{iter-more}
-use Rattle.paths.specs.Data.{paths}
-use Rattle.paths.specs.Among.{pathSet}
+use Rattle.path.specs.Data.{paths}
+use Rattle.path.specs.Taken.{pathSet}
 use Rattle.paths.specs.Scale.{scaledPaths, scalePathTurn}
 use Rattle.paths.proofs.scale.scaled_paths.Statement.{statement}
 use Rattle.paths.proofs.scale.scaled_paths.Tie as tie

@@ -5,8 +5,9 @@ use borrow.Author.Needs.{needs}
 use denote.Ref.{now}
 use Prim.Native.Nat.{_*_}
 use Rattle.fixed.proofs.Fit.{read}
-use Rattle.paths.specs.Data.{Paths, Running}
-use Rattle.paths.specs.Scale.{scaled, scaledWords, scaledWork}
+use Rattle.path.specs.Data.{Paths, Running}
+use Rattle.path.specs.Scaled.{scaledWords}
+use Rattle.paths.specs.Scale.{scaled, scaledWork}
 use Rattle.paths.proofs.scale.silk_nsq_del_dec_scale_states.Statement.{statement}
 use Rattle.paths.proofs.scale.silk_nsq_del_dec_scale_states.Tie as tie
 

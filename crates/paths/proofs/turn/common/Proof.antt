@@ -6,8 +6,8 @@ use denote.Ref.{now}
 use Prim.Native.Nat.{_+_}
 use mir.Syntax.{w16}
 use Rattle.fixed.proofs.Fit.{got32, back, read}
-use Rattle.paths.specs.Data.{word}
-use Rattle.paths.proofs.Told.{fix}
+use Rattle.path.specs.Data.{word}
+use Rattle.path.proofs.Told.{fix}
 use Rattle.paths.proofs.turn.common.Statement.{statement}
 use Rattle.paths.proofs.turn.common.Tie as tie
 

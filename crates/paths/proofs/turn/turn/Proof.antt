@@ -6,10 +6,11 @@ use borrow.Author.Needs.{needs}
 use denote.Ref.{now}
 use mir.Syntax.{w32}
 use Rattle.fixed.proofs.Fit.{back, got32}
-use Rattle.paths.specs.declared.structs.Common.{Common}
-use Rattle.paths.specs.Data.{word, Running, running, rows}
-use Rattle.paths.specs.Among.{keepsFirst, Settled}
-use Rattle.paths.proofs.Told.{sampled, fix, halves}
+use Rattle.path.specs.declared.structs.Common.{Common}
+use Rattle.path.specs.Data.{word, Running, running, rows}
+use Rattle.among.specs.Among.{keepsFirst}
+use Rattle.samples.specs.Settled.{Settled}
+use Rattle.path.proofs.Told.{sampled, fix, halves}
 use Rattle.paths.specs.Subframe.{leaves, delayed, putAt, commonFrom, predicted}
 use Rattle.paths.proofs.Turns.{written, turnWith, turn-is}
 use Rattle.paths.proofs.turn.turn.Statement.{statement}

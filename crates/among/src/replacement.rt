@@ -1,0 +1,81 @@
+// The replacement of one path by another.
+ghost use mathlib.Core.Path.{_≡_};
+ghost use Prim.Native.Nat.{_<_, _≤_};
+ghost use Rattle.path.specs.Data.{paths};
+ghost use Rattle.among.specs.Among.{swapOf, keepsFirst, replaced as replacedZ, movedOver};
+use crate::winner;
+use path::structs::Candidate;
+use path::structs::Path;
+use path::structs::Swap;
+
+// Which path is replaced by which, if any: only by a strictly cheaper candidate.
+pub fn swap_of(c: [[Candidate; 2]; 4], n: usize) -> Swap
+    requires { ⌜ (0 < n) × (n ≤ 4) ⌝ }
+    ensures { λ r. ⌜ (r ≡ swapOf c n) × ((r .to < n) × (r .by < n)) ⌝ }
+{
+    let to = winner::worst_first(c, n);
+    let by = winner::least(c, 1, n);
+    let worst = c[to][0];
+    let least = c[by][1];
+    Swap {
+        yes: least.RD_Q10 < worst.RD_Q10,
+        to: to,
+        by: by,
+    }
+}
+
+// The LPC words of `by`, but the first i of `own`.
+fn kept_words(own: [i32; 96], by: [i32; 96], i: usize) -> [i32; 96]
+    requires { ⌜ i ≤ 96 ⌝ }
+    ensures { λ r. ⌜ r ≡ keepsFirst own by i ⌝ }
+{
+    let mut row = by;
+    for j in 0..i {
+        let w = own[j];
+        row[j] = w;
+    }
+    row
+}
+
+// The paths after the replacement, if there is one.
+pub fn replaced(
+    ps: [Path; 4],
+    lpc: &mut [[i32; 96]; 4],
+    ring: &mut [[[i32; 40]; 5]; 4],
+    s: Swap,
+    i: usize,
+) -> [Path; 4]
+    requires { ⌜ (s .to < 4) × ((s .by < 4) × (i ≤ 96)) ⌝ }
+    ensures { λ q. ⌜ paths q (now (lpc .exit)) (now (ring .exit)) ≡ replacedZ keepsFirst s i (paths ps (now (lpc .entry)) (now (ring .entry))) ⌝ }
+{
+    let mut qs = ps;
+    if s.yes {
+        let to = s.to;
+        let by = s.by;
+        let p = qs[by];
+        qs[to] = p;
+        let own = lpc[to];
+        let other = lpc[by];
+        let row = kept_words(own, other, i);
+        lpc[to] = row;
+        let rings = ring[by];
+        ring[to] = rings;
+    }
+    qs
+}
+
+// The candidates after it: the cheaper second one is now the replaced path's first.
+pub fn moved_over(c: [[Candidate; 2]; 4], s: Swap) -> [[Candidate; 2]; 4]
+    requires { ⌜ (s .to < 4) × (s .by < 4) ⌝ }
+    ensures { λ r. ⌜ r ≡ movedOver c s ⌝ }
+{
+    let mut d = c;
+    if s.yes {
+        let to = s.to;
+        let by = s.by;
+        let first = d[by][1];
+        let second = d[to][1];
+        d[to] = [first, second];
+    }
+    d
+}

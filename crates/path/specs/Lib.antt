@@ -1,0 +1,4 @@
+pub mod Data
+pub mod Path
+pub mod Taken
+pub mod Scaled
