@@ -12,6 +12,7 @@ use mir.Val.{toZ}
 use Rattle.fixed.proofs.Fit.{back, read}
 use Rattle.fixed.specs.Iter.{iter, either}
 use Rattle.fixed.proofs.Iters.{iter-more}
+use Rattle.shaping.specs.Output.{pulseOf}
 use Rattle.path.specs.Data.{word, ringQ, ringXq, ringShape}
 use Rattle.frame.specs.Flush.{flushed, flushTurn, flushAt, outs, fitMiddle, fitLast}
 use Rattle.frame.proofs.ends.flushed.Statement.{statement}
@@ -117,7 +118,7 @@ loop-again c =
     let f = read (st .fits .gain) in
     let at : ℕ → ℤ = λ j. word (getD (a .t4) j []) ((a .r + a .d - 1 - o .i) % 40) in
     let v1 = back w16 (ft .fitted .result) (ft .fitted .ok) ∙ rw (f, back w32 (at ringXq) (x .x .given)) at (ft .fitted .ensures) in
-    let v3 = back w8 (c .pulse-of .result) (c .pulse-of .ok) ∙ rw (back w32 (at ringQ) (q .q .given)) at (c .pulse-of .ensures) in
+    let v3 = back w8 (c .pulse-of .result) (c .pulse-of .ok) ∙ (c .pulse-of .ensures ∙ ap pulseOf (back w32 (at ringQ) (q .q .given))) in
     let fit : ℤ → ℤ = λ v. either (a .middle) (fitMiddle (a .gain) v) (fitLast (a .gain) v) in (
       (omega (arith, x .before .loop-test .taken), simp length-set (o .inv .0 .1)),
       simp (v1, back w32 (at ringShape) (sh .shape .given), v3, f)

@@ -2,6 +2,7 @@
 use mathlib.Core.Path.{_≡_, sym, ap, _∙_}
 use borrow.Author.Needs.{needs}
 use denote.Ref.{now}
+use lib.IntN.{ℤ}
 use mir.Syntax.{w32}
 use Rattle.fixed.proofs.Fit.{back}
 use Rattle.among.specs.Among.{keepsFirst}
@@ -10,7 +11,7 @@ use Rattle.refusals.specs.Code.{codeOf}
 use Rattle.refusals.proofs.Matched.{tag-code, code-refused, good-matched}
 use Rattle.frame.specs.Call.{callOf}
 use Rattle.frame.specs.Frame.{Done}
-use Rattle.nsq.specs.Entry.{Outcome, sizesOf, answered, taken, outcomeBy, outcome}
+use Rattle.nsq.specs.Entry.{Outcome, outcomeOf, sizesOf, answered, taken, outcomeBy, outcome}
 use Rattle.nsq.proofs.Ready.{state}
 use Rattle.nsq.proofs.Outcomes.{accepted-by, refused-by}
 use Rattle.nsq.proofs.entry.silk_NSQ_del_dec.Statement.{statement}
@@ -67,7 +68,8 @@ returns-2 c =
     let above = code-refused r (keys .match .keys2) in
     let by : Answer → Outcome = λ n. outcomeBy keepsFirst it (now (a .x)) (now (a .pulses)) n in
     let seed = back w32 (a .s .Seed) (c .struct-told4 .given .1 .1 .1 .1 .1 .1 .1 .1 .1 .0 .1) in
-    rw seed (sym (refused-by keepsFirst it (now (a .x)) (now (a .pulses)) r above) ∙ ap by e)
+    let with : ℤ → Outcome = λ z. outcomeOf r z (a .state) (now (a .pulses)) in
+    ap with seed ∙ sym (refused-by keepsFirst it (now (a .x)) (now (a .pulses)) r above) ∙ ap by e
 
 pub silk-NSQ-del-dec-spec : {M : Type 1} → statement M
 silk-NSQ-del-dec-spec =

@@ -1,0 +1,53 @@
+-- Calls that are accepted, by computation: voiced and not, of two and of four subframes. So no statement on accepted calls is empty.
+-- Assumes nothing.
+use Prim.Native.Nat.{ℕ, _*_}
+use mathlib.Core.Path.{_≡_, refl}
+use mathlib.Core.List.{List, [], _∷_}
+use lib.ListN.{replicate}
+use lib.IntN.{ℤ, pos}
+use Rattle.silk.specs.State.{zeros, freshState}
+use Rattle.refusals.specs.Code.{codeOf}
+use Rattle.refusals.specs.Table.{outside, lengthAllowed, countAllowed, orderFor, oddZ, lengthsRefused, ordersRefused, pathsRefused, kindsRefused, eachRefused, rowsRefused, gainRefused, someGain, gainsRefused, lagRefused, quietLagRefused, someLag, lastOf, lagsRefused, table, answerOf}
+use Rattle.silk.specs.declared.structs.Settings.{Settings}
+use Rattle.frame.specs.Call.{Call, callOf}
+use Rattle.nsq.specs.Entry.{sizesOf, answered}
+
+-- the settings: shaping order 2, one path, interpolation 4, all else 0
+set : ℤ → ℤ → ℤ → ℤ → Settings
+set l n order kind =
+    record {
+      «subfr_length» = l;
+      «nb_subfr» = n;
+      predictLPCOrder = order;
+      shapingLPCOrder = pos 2;
+      nStatesDelayedDecision = pos 1;
+      «warping_Q16» = pos 0;
+      signalType = kind;
+      quantOffsetType = pos 0;
+      «NLSFInterpCoef_Q2» = pos 4;
+      Seed = pos 0;
+      «Lambda_Q10» = pos 0;
+      «LTP_scale_Q14» = pos 0;
+    }
+
+-- silence from a fresh state: L, n, prediction order, signal type, and the lag of each subframe
+pub silent : ℕ → ℕ → ℕ → ℤ → ℤ → Call
+silent l n order kind lag =
+    callOf (set (pos l) (pos n) (pos order) kind) freshState (zeros 32) (zeros (5 * n)) (zeros (24 * n)) (zeros n) (zeros n) (zeros n)
+    (replicate n (pos 65536))
+    (replicate n lag)
+
+-- its number
+pub numberOf : ℕ → ℕ → ℕ → ℤ → ℤ → ℕ
+numberOf l n order kind lag = codeOf (answered (silent l n order kind lag) (zeros (n * l)) (zeros (n * l)))
+
+-- voiced with two and with four subframes, then not voiced
+pub accepted-examples :
+    (numberOf 40 2 10 (pos 2) (pos 16)
+    ∷ numberOf 80 4 16 (pos 2) (pos 288)
+    ∷ numberOf 60 2 10 (pos 0) (pos 0)
+    ∷ numberOf 80 4 16 (pos 1) (pos 100)
+    ∷ [])
+    ≡ (0 ∷ 0 ∷ 0 ∷ 0 ∷ [])
+unfolding silent numberOf set freshState zeros sizesOf answered outside lengthAllowed countAllowed orderFor oddZ lengthsRefused ordersRefused pathsRefused kindsRefused eachRefused rowsRefused gainRefused someGain gainsRefused lagRefused quietLagRefused someLag lastOf lagsRefused table answerOf
+accepted-examples = refl
