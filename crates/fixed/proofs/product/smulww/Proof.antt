@@ -1,5 +1,6 @@
 -- `fixed::product::smulww` meets its contract. Assumes nothing.
 use Prim.Native.Nat.{_^_}
+use mathlib.Core.Path.{_∙_}
 use borrow.Author.Needs.{needs}
 use Rattle.fixed.proofs.Fit.{fit, fit-mul, fit-shr, read, got32, wide32}
 use Rattle.fixed.specs.Product.{smulww}
@@ -26,7 +27,7 @@ returns c =
     let a = wide32 (f .a) in
     let b = wide32 (f .b) in
     let p = fit-mul _ _ (f .a) (f .b) in
-    cc (got32 (c .low32 .result) (c .low32 .ok), read p, read (fit-shr _ _ (2 ^ 16) p))
+    got32 (c .low32 .result) (c .low32 .ok) ∙ rw (a .0, b .0, a .1, b .1, read p, read (fit-shr _ _ (2 ^ 16) p)) at (c .low32 .ensures)
 
 pub smulww-spec : {M : Type 1} → statement M
 smulww-spec = tie.close (tie.spec cast-low32 cast-low32-2 mul-low32 low32-requires returns)
