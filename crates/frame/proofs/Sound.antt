@@ -8,6 +8,7 @@ use mathlib.Core.List.{List}
 use mathlib.Core.Logic.{⊎-elim, inl, inr}
 use lib.ListN.{length}
 use lib.IntN.{ℤ, pos}
+use lib.Signed.{_≤ℤ_}
 use lib.Dec.{eqb, leb, ltb}
 use borrow.Author.Tests.{eqb-true, eqb-false, le-leb}
 use Rattle.fixed.proofs.Iters.{iter-keeps, iter-inv, either-all}
@@ -19,7 +20,8 @@ use Rattle.refusals.specs.declared.answer.Sizes.{Sizes}
 use Rattle.refusals.specs.Good.{GoodOrder, QuietLag, GoodSettings, GoodLags, Good}
 use Rattle.refusals.proofs.Room.{lag-above, start-above, subframe-within}
 use Rattle.frame.specs.declared.call.Given.{Given}
-use Rattle.frame.specs.Call.{Call, voicedBy, lowered, delayTurn, voicedDelay, quietDelay, delayBy, givenBy, givenOf, lagBy, twiceBy, secondBy, rewhitesBy, sinceBy, rowBy, fixBy, fixOf, countOf, Sound}
+use Rattle.frame.specs.Call.{Call, voicedBy, lowered, delayTurn, voicedDelay, quietDelay, delayBy, givenBy, givenOf, lagBy, twiceBy, secondBy, rewhitesBy, sinceBy, rowBy, fixBy, fixOf, countOf, Sound, Stocked}
+use Rattle.frame.specs.Frame.{Room}
 
 -- ---- the decision delay
 -- it is at most 40 and at most L, voiced or not
@@ -216,6 +218,41 @@ fits-by {g} {lags} {k} lf gains s h =
       old = omega arith;
     }
 
+-- ---- what a subframe asks for, all together
+pub record May (g : Given) (x pred ltp ar lf gains lags : List ℤ) (k : ℕ) : Type 0 where
+  pub fits : Fits (fixBy g lags lf gains k)
+  pub room : Room (fixBy g lags lf gains k)
+  pub gain : pos 1 ≤ℤ fixBy g lags lf gains k .«Gain_Q16»
+  pub delay : fixBy g lags lf gains k .decisionDelay ≤ 2 * fixBy g lags lf gains k .«subfr_length»
+  pub two : 2 * fixBy g lags lf gains k .«subfr_length» ≤ g .«nb_subfr» * g .«subfr_length»
+  pub within : fixBy g lags lf gains k .base + fixBy g lags lf gains k .«subfr_length» ≤ g .«nb_subfr» * g .«subfr_length»
+  pub samples : fixBy g lags lf gains k .base + fixBy g lags lf gains k .«subfr_length» ≤ length x
+  pub row : rowBy g k * 16 + 16 ≤ length pred
+  pub five : k * 5 + 5 ≤ length ltp
+  pub shape : k * 24 + 24 ≤ length ar
+
+pub may-of : {g : Given} {x pred ltp ar tilt harm lf gains lags : List ℤ} {k : ℕ} → Sound g lags → Stocked g x pred ltp ar tilt harm lf gains lags
+    → k < g .«nb_subfr» → May g x pred ltp ar lf gains lags k
+unfolding fixBy
+may-of {g} {x} {pred} {ltp} {ar} {tilt} {harm} {lf} {gains} {lags} {k} s w h =
+    let l = g .«subfr_length» in
+    let n = g .«nb_subfr» in
+    let one : k * l + l ≤ n * l = subframe-within l h in
+    let two : 2 * l ≤ n * l = mul-le-mul-right l (s .some) in
+    let few = s .few in
+    record {
+      fits = fits-by lf gains s h;
+      room = record { room = s .lagHigh k h };
+      gain = w .each k h;
+      delay = let a = s .delayShort in omega arith;
+      two = two;
+      within = one;
+      samples = let a = w .samples in omega arith;
+      row = let a = row-few g k (omega arith) in let b = w .predRows in omega arith;
+      five = let a = w .ltpRows in omega arith;
+      shape = let a = w .arRows in omega arith;
+    }
+
 -- ---- the same of a call
 pub sound-of : (c : Call) {z : Sizes} {gain : ℤ} → Good (c .settings) z (c .state .lagPrev) gain (c .«Gains_Q16») (c .pitchL) → Sound (givenOf c) (c .pitchL)
 sound-of c g = sound-by (g .settings) (g .lag)
@@ -227,3 +264,24 @@ fits-of c k g h = fits-by (c .«LF_shp_Q14») (c .«Gains_Q16») (sound-of c g) 
 pub given-may : {s : Settings} {z : Sizes} {p gain : ℤ} {gains lags : List ℤ} → Good s z p gain gains lags
     → (natZ (s .signalType) ≤ 2) × ((natZ (s .quantOffsetType) ≤ 1) × (natZ (s .«nb_subfr») ≤ length lags))
 given-may g = let e = g .rows .lags in (g .settings .kind .most, (g .settings .offset .most, omega arith))
+
+-- its rows hold what the subframes read
+pub stocked-by : {s : Settings} {z : Sizes} {p gain : ℤ} {x pred ltp ar tilt harm lf gains lags : List ℤ} → Good s z p gain gains lags
+    → length x ≡ z .samples → length pred ≡ z .«pred_coef» → length ltp ≡ z .«ltp_coef» → length ar ≡ z .ar
+    → length tilt ≡ z .tilt → length harm ≡ z .«harm_gain» → length lf ≡ z .lf
+    → Stocked (givenBy s p lags) x pred ltp ar tilt harm lf gains lags
+unfolding givenBy
+stocked-by {s} {z} g x pred ltp ar tilt harm lf =
+    let r = g .rows in
+    record {
+      samples = let a = r .samples in omega arith;
+      predRows = let a = r .pred-coef in omega arith;
+      ltpRows = let a = r .ltp-coef in omega arith;
+      arRows = let a = r .ar in omega arith;
+      tilts = let a = r .tilt in omega arith;
+      harms = let a = r .harm-gain in omega arith;
+      lfs = let a = r .lf in omega arith;
+      gainWords = let a = r .gains in omega arith;
+      lagWords = let a = r .lags in omega arith;
+      each = g .gain .each;
+    }

@@ -34,6 +34,22 @@ pub record Call : Type 0 where
   pub «Gains_Q16» : List ℤ
   pub pitchL : List ℤ
 
+-- all of it together
+abbrev pub callOf : Settings → NsqState → List ℤ → List ℤ → List ℤ → List ℤ → List ℤ → List ℤ → List ℤ → List ℤ → Call
+callOf s state pred ltp ar harm tilt lf gains lags =
+    record {
+      settings = s;
+      state = state;
+      «PredCoef_Q12» = pred;
+      «LTPCoef_Q14» = ltp;
+      «AR_Q13» = ar;
+      «HarmShapeGain_Q14» = harm;
+      «Tilt_Q14» = tilt;
+      «LF_shp_Q14» = lf;
+      «Gains_Q16» = gains;
+      pitchL = lags;
+    }
+
 -- ---- what is given, as counts
 -- is the frame voiced? By signalType
 unfoldable pub voicedBy : ℤ → Bool

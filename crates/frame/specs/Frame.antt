@@ -18,7 +18,7 @@ use Rattle.paths.specs.Scale.{filled, scaled}
 use Rattle.refusals.specs.Count.{natZ, sameZ}
 use Rattle.frame.specs.declared.call.Given.{Given}
 use Rattle.frame.specs.declared.step.Prior.{Prior}
-use Rattle.frame.specs.Call.{Call, givenOf, lengthOf, countOf, pathsOf, delayOf, rewhites, since, secondBy, rewhitesBy, fixBy, rowsBy, whiteBy}
+use Rattle.frame.specs.Call.{Call, givenOf, lengthOf, countOf, pathsOf, sinceBy, secondBy, rewhitesBy, fixBy, rowsBy, whiteBy}
 use Rattle.frame.specs.Begin.{zeroPath, zeroLpcs, zeroRings, begun}
 use Rattle.frame.specs.Flush.{bestOf, fitMiddle, fitLast, Outs, flushed, othersRaised}
 
@@ -198,7 +198,11 @@ subframeTurn rule c x k t =
     k
     t
 
--- ..
+-- n subframes, by what is given and the rows
+abbrev pub runBy : Rule → Given → List ℤ → List ℤ → List ℤ → List ℤ → List ℤ → List ℤ → List ℤ → List ℤ → List ℤ → ℕ → Framed → Framed
+runBy rule g x pred ltp ar tilt harm lf gains lags n t = iter (turnBy rule g x pred ltp ar tilt harm lf gains lags) n t
+
+-- all subframes of a call
 unfoldable pub run : Rule → Call → List ℤ → List ℤ → Framed
 run rule c x out = iter (subframeTurn rule c x) (countOf c) (start c out)
 
@@ -225,37 +229,46 @@ pub record Done : Type 0 where
   pub state : NsqState
   pub pulses : List ℤ
 
--- the state and the seed from the final winner p, its LPC words, and the rows after the last flush
-unfoldable pub handedOut : Call → Framed → Path → List ℤ → Outs → Done
-handedOut c t p lpc o =
+-- the three together
+abbrev pub doneOf : ℤ → NsqState → List ℤ → Done
+doneOf seed state out = record { seed = seed; state = state; pulses = out }
+
+-- the state that is left: by what is given, the last lag, the LPC words of the state before, the gain, the final winner p with its LPC words, and
+-- the rows after the last flush
+unfoldable pub leftBy : Given → ℤ → List ℤ → ℤ → Path → List ℤ → List ℤ → List ℤ → NsqState
+leftBy g lag words gain p lpc xq shp =
     record {
-      seed = p .«SeedInit»;
-      state =
-          record {
-            xq = movedDown (countOf c * lengthOf c) (4 * lengthOf c) (o .xq);
-            «sLTP_shp_Q14» = movedDown (countOf c * lengthOf c) (4 * lengthOf c) (o .«sLTP_shp_Q14»);
-            «sLPC_Q14» = wordsFrom lpc (lengthOf c) 16 (c .state .«sLPC_Q14»);
-            «sAR2_Q14» = p .«sAR2_Q14»;
-            «sLF_AR_shp_Q14» = p .«LF_AR_Q14»;
-            «sDiff_shp_Q14» = p .«Diff_Q14»;
-            lagPrev = word (c .pitchL) (countOf c - 1);
-            «sLTP_buf_idx» = pos (4 * lengthOf c + (since c (countOf c - 1) + 1) * lengthOf c);
-            «sLTP_shp_buf_idx» = pos (4 * lengthOf c + countOf c * lengthOf c);
-            «prev_gain_Q16» = t .«prev_gain_Q16»;
-            «rewhite_flag» = either (rewhites c (countOf c - 1)) (pos 1) (pos 0);
-          };
-      pulses = o .pulses;
+      xq = movedDown (g .«nb_subfr» * g .«subfr_length») (4 * g .«subfr_length») xq;
+      «sLTP_shp_Q14» = movedDown (g .«nb_subfr» * g .«subfr_length») (4 * g .«subfr_length») shp;
+      «sLPC_Q14» = wordsFrom lpc (g .«subfr_length») 16 words;
+      «sAR2_Q14» = p .«sAR2_Q14»;
+      «sLF_AR_shp_Q14» = p .«LF_AR_Q14»;
+      «sDiff_shp_Q14» = p .«Diff_Q14»;
+      lagPrev = lag;
+      «sLTP_buf_idx» = pos (4 * g .«subfr_length» + (sinceBy g (g .«nb_subfr» - 1) + 1) * g .«subfr_length»);
+      «sLTP_shp_buf_idx» = pos (4 * g .«subfr_length» + g .«nb_subfr» * g .«subfr_length»);
+      «prev_gain_Q16» = gain;
+      «rewhite_flag» = either (rewhitesBy g (g .«nb_subfr» - 1)) (pos 1) (pos 0);
     }
 
--- with the final winner w
-unfoldable pub endedWith : Call → Framed → ℕ → Done
-endedWith c t w =
-    handedOut c t (getD (t .run .core .ps .owns) w noPath) (getD (t .run .core .ps .lpcs) w [])
-    (flushedRun (lengthOf c) (delayOf c) (fitLast (word (c .«Gains_Q16») (countOf c - 1))) (countOf c * lengthOf c) w (t .run))
+-- .. with the seed that the winner started from, and the pulses
+abbrev pub handedOut : Given → ℤ → List ℤ → ℤ → Path → List ℤ → Outs → Done
+handedOut g lag words gain p lpc o =
+    doneOf (p .«SeedInit») (leftBy g lag words gain p lpc (o .xq) (o .«sLTP_shp_Q14»)) (o .pulses)
+
+-- with the final winner w; `last` is the last gain
+abbrev pub endedWith : Given → ℤ → ℤ → List ℤ → Framed → ℕ → Done
+endedWith g last lag words t w =
+    handedOut g lag words (t .«prev_gain_Q16») (getD (t .run .core .ps .owns) w noPath) (getD (t .run .core .ps .lpcs) w [])
+    (flushedRun (g .«subfr_length») (g .delay) (fitLast last) (g .«nb_subfr» * g .«subfr_length») w (t .run))
 
 -- ..
-unfoldable pub ended : Call → Framed → Done
-ended c t = endedWith c t (bestOf (t .run .core .ps .owns) (pathsOf c))
+unfoldable pub endedBy : Given → ℤ → ℤ → List ℤ → Framed → Done
+endedBy g last lag words t = endedWith g last lag words t (bestOf (t .run .core .ps .owns) (g .nStates))
+
+-- .. of a call
+abbrev pub ended : Call → Framed → Done
+ended c t = endedBy (givenOf c) (word (c .«Gains_Q16») (countOf c - 1)) (word (c .pitchL) (countOf c - 1)) (c .state .«sLPC_Q14») t
 
 -- the whole frame
 unfoldable pub frame : Rule → Call → List ℤ → List ℤ → Done

@@ -50,7 +50,7 @@ pub fn step(
     p: Prior,
 ) -> Frame
     requires { ⌜ ((Fits f × Room f) × ((pos 1 ≤ℤ t .prev) × (pos 1 ≤ℤ f .«Gain_Q16»))) × ((((f .decisionDelay ≤ 2 * f .«subfr_length») × (2 * f .«subfr_length» ≤ length (now pulses))) × (t .work .«smpl_buf_idx» < 40)) × (((16 ≤ length (now a)) × (5 ≤ length (now b))) × ((24 ≤ length (now ar)) × ((f .base + f .«subfr_length» ≤ length (now x)) × (f .base + f .«subfr_length» ≤ length (now pulses)))))) ⌝ }
-    ensures { λ r. ⌜ (framedOf (running (r .work) (now (lpc .exit)) (now (ring .exit)) (now (ltp .exit)) (now (dgain .exit)) (now (xq .exit)) (now (shp .exit)) (now (pulses .exit))) (r .sLTP) (r .prev) ≡ stepZ keepsFirst f (rows (now (a .entry)) (now (b .entry)) (now (ar .entry)) h) (now (x .entry)) (p .again) (p .rewhite) (p .gain1) (p .inv) (framedOf (running (t .work) (now (lpc .entry)) (now (ring .entry)) (now (ltp .entry)) (now (dgain .entry)) (now (xq .entry)) (now (shp .entry)) (now (pulses .entry))) (t .sLTP) (t .prev))) × (r .work .«smpl_buf_idx» < 40) ⌝ }
+    ensures { λ r. ⌜ (framedOf (running (r .work) (now (lpc .exit)) (now (ring .exit)) (now (ltp .exit)) (now (dgain .exit)) (now (xq .exit)) (now (shp .exit)) (now (pulses .exit))) (r .sLTP) (r .prev) ≡ stepZ keepsFirst f (rows (now (a .entry)) (now (b .entry)) (now (ar .entry)) h) (now (x .entry)) (p .again) (p .rewhite) (p .gain1) (p .inv) (framedOf (running (t .work) (now (lpc .entry)) (now (ring .entry)) (now (ltp .entry)) (now (dgain .entry)) (now (xq .entry)) (now (shp .entry)) (now (pulses .entry))) (t .sLTP) (t .prev))) × ((r .prev ≡ f .«Gain_Q16») × (r .work .«smpl_buf_idx» < 40)) ⌝ }
 {
     let w = t.work;
     let sltp = t.sLTP;

@@ -1,19 +1,22 @@
 // Subframe k of a frame: what it works with is read off the call, then it is coded.
 ghost use denote.Ref.{now};
 ghost use mathlib.Core.Path.{_≡_};
-ghost use Prim.Native.Nat.{_*_, _<_, _≤_};
-ghost use lib.ListN.{length};
+ghost use Prim.Native.Nat.{_+_, _*_, _<_, _≤_};
+ghost use lib.ListN.{length, take, drop};
 ghost use lib.IntN.{pos};
 ghost use lib.Signed.{_≤ℤ_};
-ghost use Rattle.path.specs.Data.{running};
+ghost use Rattle.path.specs.Data.{rows, running};
 ghost use Rattle.among.specs.Among.{keepsFirst};
+ghost use Rattle.paths.specs.Subframe.{Fits};
 ghost use Rattle.frame.specs.Call.{Sound, Stocked};
-ghost use Rattle.frame.specs.Frame.{framedOf, priorBy, turnBy};
+ghost use Rattle.frame.specs.Frame.{Room, framedOf, stepBy, priorBy, turnBy};
 use crate::call;
 use crate::call::Given;
 use crate::step;
 use crate::step::Frame;
 use crate::step::Prior;
+use path::structs::Fix;
+use path::structs::Halves;
 
 // What comes before the samples of subframe k.
 fn prior_of(g: Given, gains: &[i32], k: usize) -> Prior
@@ -28,6 +31,49 @@ fn prior_of(g: Given, gains: &[i32], k: usize) -> Prior
         rewhite: call::rewhites(g, k),
         inv: call::white_gain(g, gain, k),
     }
+}
+
+// A subframe whose coefficients stand in the rows from three places on.
+fn stepped(
+    t: Frame,
+    lpc: &mut [[i32; 96]; 4],
+    ring: &mut [[[i32; 40]; 5]; 4],
+    ltp: &mut [i32; 640],
+    dgain: &mut [i32; 40],
+    xq: &mut [i16; 640],
+    shp: &mut [i32; 640],
+    pulses: &mut [i8],
+    x: &[i16],
+    pred: &[i16],
+    long: &[i16],
+    ar: &[i16],
+    f: Fix,
+    h: Halves,
+    p: Prior,
+    from: usize,
+    five: usize,
+    shape: usize,
+) -> Frame
+    requires { ⌜ ((Fits f × Room f) × ((pos 1 ≤ℤ t .prev) × (pos 1 ≤ℤ f .«Gain_Q16»))) × ((((f .decisionDelay ≤ 2 * f .«subfr_length») × (2 * f .«subfr_length» ≤ length (now pulses))) × (t .work .«smpl_buf_idx» < 40)) × (((from + 16 ≤ length (now pred)) × (five + 5 ≤ length (now long))) × ((shape + 24 ≤ length (now ar)) × ((f .base + f .«subfr_length» ≤ length (now x)) × (f .base + f .«subfr_length» ≤ length (now pulses)))))) ⌝ }
+    ensures { λ r. ⌜ (framedOf (running (r .work) (now (lpc .exit)) (now (ring .exit)) (now (ltp .exit)) (now (dgain .exit)) (now (xq .exit)) (now (shp .exit)) (now (pulses .exit))) (r .sLTP) (r .prev) ≡ stepBy keepsFirst f (rows (take 16 (drop from (now (pred .entry)))) (take 5 (drop five (now (long .entry)))) (take 24 (drop shape (now (ar .entry)))) h) (now (x .entry)) p (framedOf (running (t .work) (now (lpc .entry)) (now (ring .entry)) (now (ltp .entry)) (now (dgain .entry)) (now (xq .entry)) (now (shp .entry)) (now (pulses .entry))) (t .sLTP) (t .prev))) × ((r .prev ≡ f .«Gain_Q16») × (r .work .«smpl_buf_idx» < 40)) ⌝ }
+{
+    step::step(
+        t,
+        lpc,
+        ring,
+        ltp,
+        dgain,
+        xq,
+        shp,
+        pulses,
+        x,
+        &pred[from..from + 16],
+        &long[five..five + 5],
+        &ar[shape..shape + 24],
+        f,
+        h,
+        p,
+    )
 }
 
 // Subframe k.
@@ -60,8 +106,8 @@ pub fn turn(
     let p = prior_of(g, gains, k);
     let from = call::row_of(g, k) * 16;
     let five = k * 5;
-    let two = k * 24;
-    step::step(
+    let shape = k * 24;
+    stepped(
         t,
         lpc,
         ring,
@@ -71,11 +117,14 @@ pub fn turn(
         shp,
         pulses,
         x,
-        &pred[from..from + 16],
-        &long[five..five + 5],
-        &ar[two..two + 24],
+        pred,
+        long,
+        ar,
         f,
         h,
         p,
+        from,
+        five,
+        shape,
     )
 }

@@ -48,7 +48,7 @@ returns c =
           ap (λ (r : Running). framedOf r row (a .f .«Gain_Q16»)) (sq .silk-noise-shape-quantizer-del-dec .ensures .0)
           ∙ ap after (rw (gain1, inv, prev) at (b .before2 .ensures .0 (now (a .dgain))))
           ),
-      sq .silk-noise-shape-quantizer-del-dec .ensures .1,
+      (gain, sq .silk-noise-shape-quantizer-del-dec .ensures .1),
     )
 
 pub step-spec : {M : Type 1} → statement M

@@ -1,0 +1,3 @@
+-- Ready: what a good call has, and the words of a state. Outcomes: accepted and refused calls.
+pub mod Ready
+pub mod Outcomes

@@ -1,0 +1,74 @@
+-- `nsq::entry::silk_NSQ_del_dec` meets its contract. Assumes nothing.
+use mathlib.Core.Path.{_≡_, sym, ap, _∙_}
+use borrow.Author.Needs.{needs}
+use denote.Ref.{now}
+use mir.Syntax.{w32}
+use Rattle.fixed.proofs.Fit.{back}
+use Rattle.among.specs.Among.{keepsFirst}
+use Rattle.refusals.specs.declared.answer.Answer.{Answer}
+use Rattle.refusals.specs.Code.{codeOf}
+use Rattle.refusals.proofs.Matched.{tag-code, code-refused, good-matched}
+use Rattle.frame.specs.Call.{callOf}
+use Rattle.frame.specs.Frame.{Done}
+use Rattle.nsq.specs.Entry.{Outcome, sizesOf, answered, taken, outcomeBy, outcome}
+use Rattle.nsq.proofs.Ready.{state}
+use Rattle.nsq.proofs.Outcomes.{accepted-by, refused-by}
+use Rattle.nsq.proofs.entry.silk_NSQ_del_dec.Statement.{statement}
+use Rattle.nsq.proofs.entry.silk_NSQ_del_dec.Tie as tie
+
+check-requires : tie.Need-check-requires
+check-requires c κs = search needs
+
+enum-told : tie.Need-enum-told
+enum-told c = search needs
+
+coded-requires : tie.Need-coded-requires
+unfolding sizesOf
+coded-requires c κs =
+    let keys = c .before .before in
+    let ck = keys .before in
+    let st = ck .before .before .before in
+    let a = st .args in
+    let s = state (a .state) (ck .before .before .struct-told .given) in
+    let e = rw (s .lag, s .gain) at (ck .check .ensures) in
+    good-matched (a .s) _ (a .state .lagPrev) (a .state .«prev_gain_Q16») (now (a .gains)) (now (a .lags)) (ck .check .result) e (keys .match .keys1)
+
+same-length : tie.Need-same-length
+same-length c = search needs
+
+returns : tie.Need-returns
+unfolding outcome answered sizesOf
+returns c =
+    let cd = c .before .before .before in
+    let keys = cd .before .before .before in
+    let ck = keys .before in
+    let st = ck .before .before .before in
+    let a = st .args in
+    let s = state (a .state) (ck .before .before .struct-told .given) in
+    let e = rw (s .lag, s .gain) at (ck .check .ensures) in
+    let it = callOf (a .s) (a .state) (now (a .pred)) (now (a .long)) (now (a .ar)) (now (a .harm)) (now (a .tilt)) (now (a .lf)) (now (a .gains)) (now (a .lags)) in
+    let r = ck .check .result in
+    let zero : codeOf r ≡ 0 = sym (tag-code r) ∙ keys .match .keys1 in
+    let by : Answer → Outcome = λ n. outcomeBy keepsFirst it (now (a .x)) (now (a .pulses)) n in
+    let seed = back w32 (cd .coded .result .seed) (c .struct-told3 .given .0 .1) in
+    rw seed (ap (λ (d : Done). taken r d) (cd .coded .ensures) ∙ sym (accepted-by keepsFirst it (now (a .x)) (now (a .pulses)) r zero) ∙ ap by e)
+
+returns-2 : tie.Need-returns-2
+unfolding outcome answered sizesOf
+returns-2 c =
+    let keys = c .before in
+    let ck = keys .before in
+    let st = ck .before .before .before in
+    let a = st .args in
+    let s = state (a .state) (ck .before .before .struct-told .given) in
+    let e = rw (s .lag, s .gain) at (ck .check .ensures) in
+    let it = callOf (a .s) (a .state) (now (a .pred)) (now (a .long)) (now (a .ar)) (now (a .harm)) (now (a .tilt)) (now (a .lf)) (now (a .gains)) (now (a .lags)) in
+    let r = ck .check .result in
+    let above = code-refused r (keys .match .keys2) in
+    let by : Answer → Outcome = λ n. outcomeBy keepsFirst it (now (a .x)) (now (a .pulses)) n in
+    let seed = back w32 (a .s .Seed) (c .struct-told4 .given .1 .1 .1 .1 .1 .1 .1 .1 .1 .0 .1) in
+    rw seed (sym (refused-by keepsFirst it (now (a .x)) (now (a .pulses)) r above) ∙ ap by e)
+
+pub silk-NSQ-del-dec-spec : {M : Type 1} → statement M
+silk-NSQ-del-dec-spec =
+    tie.close (tie.spec check-requires enum-told coded-requires same-length returns returns-2)

@@ -1,0 +1,79 @@
+// The call: document 01's refusals, then the frame.
+ghost use denote.Ref.{now};
+ghost use mathlib.Core.Path.{_≡_};
+ghost use Rattle.among.specs.Among.{keepsFirst};
+ghost use Rattle.frame.specs.Call.{callOf};
+ghost use Rattle.nsq.specs.Entry.{outcomeOf, outcome};
+use crate::accepted;
+use refusals::answer::Answer;
+use refusals::answer::Sizes;
+use refusals::check;
+use silk::structs::NsqState;
+use silk::structs::Settings;
+
+// What a call hands back beside its pulses.
+pub struct Answered {
+    pub answer: Answer,
+    pub seed: i32,
+    pub state: NsqState,
+}
+
+// `silk_NSQ_del_dec_c`. Whatever it is given, the answer says whether the call was accepted, and if not, why: then the seed and
+// the state are those given and no pulse is touched.
+pub fn silk_NSQ_del_dec(
+    s: Settings,
+    state: NsqState,
+    x: &[i16],
+    pulses: &mut [i8],
+    pred: &[i16],
+    long: &[i16],
+    ar: &[i16],
+    harm: &[i32],
+    tilt: &[i32],
+    lf: &[i32],
+    gains: &[i32],
+    lags: &[i32],
+) -> Answered
+    ensures { λ r. ⌜ outcomeOf (r .answer) (r .seed) (r .state) (now (pulses .exit)) ≡ outcome keepsFirst (callOf s state (now (pred .entry)) (now (long .entry)) (now (ar .entry)) (now (harm .entry)) (now (tilt .entry)) (now (lf .entry)) (now (gains .entry)) (now (lags .entry))) (now (x .entry)) (now (pulses .entry)) ⌝ }
+{
+    let z = Sizes {
+        samples: x.len(),
+        pred_coef: pred.len(),
+        ltp_coef: long.len(),
+        ar: ar.len(),
+        harm_gain: harm.len(),
+        tilt: tilt.len(),
+        lf: lf.len(),
+        pulses: pulses.len(),
+    };
+    let answer = check::check(s, z, state.lagPrev, state.prev_gain_Q16, gains, lags);
+    match answer {
+        Answer::Accepted => {
+            let r = accepted::coded(
+                s,
+                state,
+                x,
+                pulses,
+                pred,
+                long,
+                ar,
+                harm,
+                tilt,
+                lf,
+                gains,
+                lags,
+            );
+            let next = r.state;
+            Answered {
+                answer: answer,
+                seed: r.seed,
+                state: next,
+            }
+        }
+        _ => Answered {
+            answer: answer,
+            seed: s.Seed,
+            state: state,
+        },
+    }
+}

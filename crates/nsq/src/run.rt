@@ -1,0 +1,65 @@
+// All subframes of a frame.
+ghost use denote.Ref.{now};
+ghost use mathlib.Core.Path.{_≡_};
+ghost use Prim.Native.Nat.{_*_, _<_, _≤_};
+ghost use lib.ListN.{length};
+ghost use lib.IntN.{pos};
+ghost use lib.Signed.{_≤ℤ_};
+ghost use Rattle.path.specs.Data.{running};
+ghost use Rattle.among.specs.Among.{keepsFirst};
+ghost use Rattle.frame.specs.Call.{Sound, Stocked};
+ghost use Rattle.frame.specs.Frame.{framedOf, runBy};
+use frame::call::Given;
+use frame::step::Frame;
+use frame::turn;
+
+// One after the other.
+pub fn run(
+    t: Frame,
+    lpc: &mut [[i32; 96]; 4],
+    ring: &mut [[[i32; 40]; 5]; 4],
+    ltp: &mut [i32; 640],
+    dgain: &mut [i32; 40],
+    xq: &mut [i16; 640],
+    shp: &mut [i32; 640],
+    pulses: &mut [i8],
+    x: &[i16],
+    pred: &[i16],
+    long: &[i16],
+    ar: &[i16],
+    tilt: &[i32],
+    harm: &[i32],
+    lf: &[i32],
+    gains: &[i32],
+    lags: &[i32],
+    g: Given,
+) -> Frame
+    requires { ⌜ ((Sound g (now lags) × Stocked g (now x) (now pred) (now long) (now ar) (now tilt) (now harm) (now lf) (now gains) (now lags)) × (g .«nb_subfr» * g .«subfr_length» ≤ length (now pulses))) × ((pos 1 ≤ℤ t .prev) × (t .work .«smpl_buf_idx» < 40)) ⌝ }
+    ensures { λ r. ⌜ (framedOf (running (r .work) (now (lpc .exit)) (now (ring .exit)) (now (ltp .exit)) (now (dgain .exit)) (now (xq .exit)) (now (shp .exit)) (now (pulses .exit))) (r .sLTP) (r .prev) ≡ runBy keepsFirst g (now (x .entry)) (now (pred .entry)) (now (long .entry)) (now (ar .entry)) (now (tilt .entry)) (now (harm .entry)) (now (lf .entry)) (now (gains .entry)) (now (lags .entry)) (g .«nb_subfr») (framedOf (running (t .work) (now (lpc .entry)) (now (ring .entry)) (now (ltp .entry)) (now (dgain .entry)) (now (xq .entry)) (now (shp .entry)) (now (pulses .entry))) (t .sLTP) (t .prev))) × (r .work .«smpl_buf_idx» < 40) ⌝ }
+{
+    let mut u = t;
+    for k in 0..g.nb_subfr {
+        u = turn::turn(
+            u,
+            lpc,
+            ring,
+            ltp,
+            dgain,
+            xq,
+            shp,
+            pulses,
+            x,
+            pred,
+            long,
+            ar,
+            tilt,
+            harm,
+            lf,
+            gains,
+            lags,
+            g,
+            k,
+        );
+    }
+    u
+}
