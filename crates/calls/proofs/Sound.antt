@@ -15,7 +15,7 @@ use Rattle.fixed.proofs.Iters.{iter-keeps, iter-inv, either-all}
 use Rattle.silk.specs.declared.structs.Settings.{Settings}
 use Rattle.path.specs.Data.{word}
 use Rattle.paths.specs.Subframe.{Fits}
-use Rattle.refusals.specs.Count.{natZ, sameZ}
+use Rattle.limits.specs.Count.{natZ, sameZ}
 use Rattle.refusals.specs.declared.answer.Sizes.{Sizes}
 use Rattle.refusals.specs.Good.{GoodOrder, QuietLag, GoodSettings, GoodLags, Good}
 use Rattle.refusals.proofs.Room.{lag-above, start-above, subframe-within}

@@ -18,7 +18,7 @@ use Rattle.shaping.specs.Harmonic.{packedGain}
 use Rattle.path.specs.declared.structs.Fix.{Fix}
 use Rattle.path.specs.declared.structs.Halves.{Halves}
 use Rattle.path.specs.Data.{word, Rows, rows}
-use Rattle.refusals.specs.Count.{natZ, sameZ}
+use Rattle.limits.specs.Count.{natZ, sameZ}
 use Rattle.calls.specs.declared.call.Given.{Given}
 
 -- all that a call is given but its samples and the row for its pulses

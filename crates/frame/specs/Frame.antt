@@ -15,7 +15,7 @@ use Rattle.path.specs.Data.{word, noPath, Paths, paths, Core, Running, Rows}
 use Rattle.among.specs.Among.{Rule}
 use Rattle.paths.specs.Subframe.{subframe}
 use Rattle.paths.specs.Scale.{filled, scaled}
-use Rattle.refusals.specs.Count.{natZ, sameZ}
+use Rattle.limits.specs.Count.{natZ, sameZ}
 use Rattle.calls.specs.declared.call.Given.{Given}
 use Rattle.frame.specs.declared.step.Prior.{Prior}
 use Rattle.calls.specs.Call.{Call, givenOf, lengthOf, countOf, pathsOf, sinceBy, secondBy, rewhitesBy, fixBy, rowsBy, whiteBy}

@@ -10,7 +10,7 @@ use lib.IntN.{ℤ, pos, _-ℤ_}
 use lib.ListN.{getD, set}
 use Rattle.fixed.specs.Iter.{iter}
 use Rattle.fixed.specs.Wrap.{wrap32}
-use Rattle.fixed.specs.Product.{smlawb}
+use Rattle.products.specs.Product.{smlawb}
 
 -- the filter in work
 pub record Filter : Type 0 where

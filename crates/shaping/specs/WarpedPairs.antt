@@ -8,7 +8,7 @@ use lib.IntN.{ℤ, pos, _-ℤ_}
 use lib.ListN.{getD, set}
 use Rattle.fixed.specs.Iter.{iter}
 use Rattle.fixed.specs.Wrap.{wrap32}
-use Rattle.fixed.specs.Product.{smlawb}
+use Rattle.products.specs.Product.{smlawb}
 use Rattle.shaping.specs.WarpedFilter.{Filter, write}
 
 -- tmp2 = Diff_Q14 + (sAR2[0] * warping >> 16)

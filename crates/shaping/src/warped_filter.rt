@@ -4,8 +4,8 @@ ghost use Prim.Native.Nat.{_≤_};
 ghost use lib.ListN.{length};
 ghost use Rattle.shaping.specs.WarpedFilter.{warpedFilter};
 use crate::start;
-use fixed::product;
 use fixed::wrap;
+use products::product;
 
 // Moves the first `order` words of the filter on by one sample, and returns the sum of the new words by their coefficients.
 // The new word at a place needs the old words of that place and the one below, so one word is carried from turn to turn.

@@ -1,9 +1,9 @@
 // The analysis filter on rows of three kinds: any words, the two ends of the range, and small words.
 ghost use Prim.Native.Nat.{_≤_};
 use crate::numbers;
-use fixed::generator;
 use fixed::shift;
 use fixed::wrap;
+use products::generator;
 use silk::lpc_analysis_filter;
 
 // Rows and coefficients of each kind.

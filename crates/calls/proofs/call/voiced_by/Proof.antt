@@ -1,7 +1,7 @@
 -- `calls::call::voiced_by` meets its contract. Assumes nothing.
 use lib.IntN.{pos}
 use Rattle.fixed.proofs.Fit.{lit32}
-use Rattle.refusals.proofs.Laws.{same-bits}
+use Rattle.limits.proofs.Laws.{same-bits}
 use Rattle.calls.specs.Call.{voicedBy}
 use Rattle.calls.proofs.call.voiced_by.Statement.{statement}
 use Rattle.calls.proofs.call.voiced_by.Tie as tie
