@@ -8,7 +8,7 @@ use Rattle.fixed.specs.Iter.{iter, either}
 use Rattle.silk.specs.State.{zeros}
 use Rattle.silk.specs.declared.structs.NsqState.{NsqState}
 use Rattle.silk.specs.Gains.{«gain_adj_Q16»}
-use Rattle.silk.specs.Filter.{analysis}
+use Rattle.analysis.specs.Filter.{analysis}
 use Rattle.path.specs.declared.structs.Path.{Path}
 use Rattle.path.specs.declared.structs.Fix.{Fix}
 use Rattle.path.specs.Data.{word, noPath, Paths, paths, Core, Running, Rows}

@@ -8,7 +8,7 @@ use Rattle.fixed.specs.Wrap.{wrap32, wrap16}
 use Rattle.fixed.specs.Shift.{shl32}
 use Rattle.products.specs.Generator.{rand}
 use Rattle.shaping.specs.Taps.{shortPrediction}
-use Rattle.shaping.specs.WarpedFilter.{Filter, warpedFilter}
+use Rattle.warped.specs.WarpedFilter.{Filter, warpedFilter}
 use Rattle.shaping.specs.NoiseTerms.{arTerm, lfTerm}
 use Rattle.shaping.specs.Residual.{residual}
 use Rattle.choice.specs.declared.candidate.Choice.{Choice}

@@ -24,7 +24,7 @@ use fixed::wrap;
 use products::generator;
 use shaping::noise_terms;
 use shaping::short_prediction;
-use shaping::warped_filter;
+use warped::warped_filter;
 
 impl Candidate {
     pub fn zero() -> Self

@@ -1,4 +1,4 @@
--- `silk::lpc_analysis_filter::filtered` meets its contract. Assumes nothing.
+-- `analysis::lpc_analysis_filter::filtered` meets its contract. Assumes nothing.
 use mathlib.Core.Path.{_∙_}
 use borrow.Author.Needs.{needs}
 use denote.Ref.{now}
@@ -7,9 +7,9 @@ use lib.ListN.{getD}
 use Rattle.fixed.proofs.Fit.{got16, got32, fit, read, fit16-32}
 use mir.Syntax.{w16}
 use mir.Val.{SFits}
-use Rattle.silk.specs.Filter.{filtered}
-use Rattle.silk.proofs.lpc_analysis_filter.filtered.Statement.{statement}
-use Rattle.silk.proofs.lpc_analysis_filter.filtered.Tie as tie
+use Rattle.analysis.specs.Filter.{filtered}
+use Rattle.analysis.proofs.lpc_analysis_filter.filtered.Statement.{statement}
+use Rattle.analysis.proofs.lpc_analysis_filter.filtered.Tie as tie
 
 prediction-requires : tie.Need-prediction-requires
 prediction-requires c κs = search needs

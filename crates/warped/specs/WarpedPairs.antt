@@ -9,7 +9,7 @@ use lib.ListN.{getD, set}
 use Rattle.fixed.specs.Iter.{iter}
 use Rattle.fixed.specs.Wrap.{wrap32}
 use Rattle.products.specs.Product.{smlawb}
-use Rattle.shaping.specs.WarpedFilter.{Filter, write}
+use Rattle.warped.specs.WarpedFilter.{Filter, write}
 
 -- tmp2 = Diff_Q14 + (sAR2[0] * warping >> 16)
 abbrev pub firstTmp2 : List ℤ → ℤ → ℤ → ℤ

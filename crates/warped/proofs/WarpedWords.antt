@@ -9,7 +9,7 @@ use lib.ListN.{getD, length, length-set}
 use lib.Seq.{getD-set-other}
 use Rattle.fixed.specs.Iter.{iter}
 use Rattle.fixed.proofs.Iters.{iter-keeps}
-use Rattle.shaping.specs.WarpedFilter.{Filter, turn, begin, warpedFilter}
+use Rattle.warped.specs.WarpedFilter.{Filter, turn, begin, warpedFilter}
 
 module _ (s ar : List ℤ) (order : ℕ) (w d : ℤ) where
   -- the filter before its last word is written

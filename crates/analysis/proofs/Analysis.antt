@@ -7,8 +7,8 @@ use mathlib.Core.List.{List}
 use lib.ListN.{getD, length}
 use lib.IntN.{ℤ, pos}
 use Rattle.fixed.specs.Iter.{iter}
-use Rattle.silk.specs.Filter.{filtered, filterTurn, analysis}
-use Rattle.silk.proofs.Fills.{fill-length, fill-apart, fill-at}
+use Rattle.analysis.specs.Filter.{filtered, filterTurn, analysis}
+use Rattle.analysis.proofs.Fills.{fill-length, fill-apart, fill-at}
 
 module _ (out input b : List ℤ) (order : ℕ) where
   -- the row before its first places are cleared

@@ -1,4 +1,4 @@
--- `silk::lpc_analysis_filter::silk_LPC_analysis_filter` meets its contract. Assumes nothing.
+-- `analysis::lpc_analysis_filter::silk_LPC_analysis_filter` meets its contract. Assumes nothing.
 use mathlib.Core.Path.{_≡_, _∙_}
 use Prim.Native.Nat.{_-_, _≤_}
 use native.Mathlib.Omega.{arith}
@@ -8,9 +8,9 @@ use denote.Ref.{now}
 use Rattle.fixed.specs.Iter.{iter}
 use Rattle.fixed.proofs.Fit.{got16}
 use Rattle.fixed.proofs.Iters.{iter-more}
-use Rattle.silk.specs.Filter.{filterTurn, clearTurn, analysis}
-use Rattle.silk.proofs.lpc_analysis_filter.silk_LPC_analysis_filter.Statement.{statement}
-use Rattle.silk.proofs.lpc_analysis_filter.silk_LPC_analysis_filter.Tie as tie
+use Rattle.analysis.specs.Filter.{filterTurn, clearTurn, analysis}
+use Rattle.analysis.proofs.lpc_analysis_filter.silk_LPC_analysis_filter.Statement.{statement}
+use Rattle.analysis.proofs.lpc_analysis_filter.silk_LPC_analysis_filter.Tie as tie
 
 abbrev Inv-loop : tie.InvT-loop
 Inv-loop out₀ input b order n k₀ out k = ((k ≤ n) × (length out ≡ length out₀)) × (out ≡ iter (filterTurn input b order) k out₀)

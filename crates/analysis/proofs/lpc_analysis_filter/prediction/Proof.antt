@@ -1,4 +1,4 @@
--- `silk::lpc_analysis_filter::prediction` meets its contract. Assumes nothing.
+-- `analysis::lpc_analysis_filter::prediction` meets its contract. Assumes nothing.
 use mathlib.Core.Path.{_≡_, refl, _∙_}
 use Prim.Native.Nat.{_-_, _≤_}
 use native.Mathlib.Omega.{arith}
@@ -10,9 +10,9 @@ use mir.Val.{toZ}
 use Rattle.fixed.specs.Iter.{iter}
 use Rattle.fixed.proofs.Fit.{got16, got32}
 use Rattle.fixed.proofs.Iters.{iter-more}
-use Rattle.silk.specs.Filter.{tap, prediction}
-use Rattle.silk.proofs.lpc_analysis_filter.prediction.Statement.{statement}
-use Rattle.silk.proofs.lpc_analysis_filter.prediction.Tie as tie
+use Rattle.analysis.specs.Filter.{tap, prediction}
+use Rattle.analysis.proofs.lpc_analysis_filter.prediction.Statement.{statement}
+use Rattle.analysis.proofs.lpc_analysis_filter.prediction.Tie as tie
 
 abbrev Inv-loop : tie.InvT-loop
 Inv-loop input b order ix out32-Q12₀ j₀ out32-Q12 j = (j ≤ order) × (toZ w32 out32-Q12 ≡ iter (tap input b ix) j (pos 0))

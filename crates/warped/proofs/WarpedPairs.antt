@@ -6,8 +6,8 @@ use Prim.Native.Nat.{ℕ, zero, suc, _+_, _-_, _*_, _/_}
 use native.Mathlib.Omega.{arith}
 use lib.IntN.{ℤ}
 use Rattle.fixed.specs.Iter.{iter}
-use Rattle.shaping.specs.WarpedFilter.{Filter, turn, begin, write, warpedFilter}
-use Rattle.shaping.specs.WarpedPairs.{pairTurn, byPairs}
+use Rattle.warped.specs.WarpedFilter.{Filter, turn, begin, write, warpedFilter}
+use Rattle.warped.specs.WarpedPairs.{pairTurn, byPairs}
 
 -- a turn of two at j is a turn of one at k, just before j, and one at j
 pair : (ar : List ℤ) (w : ℤ) (j k : ℕ) (f : Filter) → j - 1 ≡ k → k + 1 ≡ j → pairTurn ar w j f ≡ turn ar w j (turn ar w k f)

@@ -2,10 +2,10 @@
 ghost use mathlib.Core.Path.{_≡_};
 ghost use Prim.Native.Nat.{_≤_};
 ghost use lib.ListN.{length};
-ghost use Rattle.shaping.specs.WarpedFilter.{warpedFilter};
-use crate::start;
+ghost use Rattle.warped.specs.WarpedFilter.{warpedFilter};
 use fixed::wrap;
 use products::product;
+use shaping::start;
 
 // Moves the first `order` words of the filter on by one sample, and returns the sum of the new words by their coefficients.
 // The new word at a place needs the old words of that place and the one below, so one word is carried from turn to turn.

@@ -1,4 +1,4 @@
--- `shaping::warped_filter::warped_filter` meets its contract. Assumes nothing.
+-- `warped::warped_filter::warped_filter` meets its contract. Assumes nothing.
 use Prim.Native.Nat.{_+_, _-_, _≤_}
 use mathlib.Core.Path.{_≡_, ap, _∙_}
 use mathlib.Core.List.{List}
@@ -11,9 +11,9 @@ use mir.Val.{toZ, ofZ, SFits}
 use Rattle.fixed.specs.Iter.{iter}
 use Rattle.fixed.proofs.Iters.{iter-more}
 use Rattle.fixed.proofs.Fit.{read, got32, got16}
-use Rattle.shaping.specs.WarpedFilter.{Filter, turn, write, begin, warpedFilter}
-use Rattle.shaping.proofs.warped_filter.warped_filter.Statement.{statement}
-use Rattle.shaping.proofs.warped_filter.warped_filter.Tie as tie
+use Rattle.warped.specs.WarpedFilter.{Filter, turn, write, begin, warpedFilter}
+use Rattle.warped.proofs.warped_filter.warped_filter.Statement.{statement}
+use Rattle.warped.proofs.warped_filter.warped_filter.Tie as tie
 
 -- the filter in work, as the code's locals hold it
 abbrev inWork : List ℤ → ℤ → ℤ → Filter
