@@ -1,2 +1,3 @@
--- Befores: the steps before a subframe's samples, put together.
+-- Befores: the steps before a subframe's samples, put together. Unique: each contract leaves one outcome.
 pub mod Befores
+pub mod Unique
