@@ -1,0 +1,54 @@
+-- `nsq_replay::digest::halves` meets its contract. Assumes nothing.
+use Prim.Native.Nat.{_≤_, _<_, _-_}
+use borrow.Author.Needs.{needs}
+use Rattle.nsq_replay.proofs.digest.halves.Statement.{statement}
+use Rattle.nsq_replay.proofs.digest.halves.Tie as tie
+
+abbrev Inv-loop : tie.InvT-loop
+Inv-loop row n h₀ i₀ h i = i ≤ n
+
+abbrev μ-loop : tie.MeasureT-loop
+μ-loop row n h₀ i₀ h i = n - i
+
+loop-holds : tie.Need-loop-holds Inv-loop μ-loop
+loop-holds c = search needs
+
+mul-wide16 : tie.Need-mul-wide16 Inv-loop μ-loop
+mul-wide16 c = search needs
+
+shared-slice-copy-out-wide16 : tie.Need-shared-slice-copy-out-wide16 Inv-loop μ-loop
+shared-slice-copy-out-wide16 c = search needs
+
+wide16-requires : tie.Need-wide16-requires Inv-loop μ-loop
+wide16-requires c κs = search needs
+
+word-requires : tie.Need-word-requires Inv-loop μ-loop
+word-requires c κs = search needs
+
+add-i : tie.Need-add-i Inv-loop μ-loop
+add-i c = search needs
+
+loop-less : tie.Need-loop-less Inv-loop μ-loop
+loop-less c = search needs
+
+loop-again : tie.Need-loop-again Inv-loop μ-loop
+loop-again c = search needs
+
+returns : tie.Need-returns Inv-loop μ-loop
+returns c = search needs
+
+pub halves-spec : {M : Type 1} → statement M
+halves-spec =
+    tie.close
+    (tie.spec
+    Inv-loop
+    μ-loop
+    loop-holds
+    mul-wide16
+    shared-slice-copy-out-wide16
+    wide16-requires
+    word-requires
+    add-i
+    loop-less
+    loop-again
+    returns)

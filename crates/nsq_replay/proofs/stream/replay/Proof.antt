@@ -1,0 +1,46 @@
+-- `nsq_replay::stream::replay` meets its contract. Assumes nothing.
+use Prim.Native.Nat.{_≤_, _<_, _-_}
+use borrow.Author.Needs.{needs}
+use Rattle.nsq_replay.proofs.stream.replay.Statement.{statement}
+use Rattle.nsq_replay.proofs.stream.replay.Tie as tie
+
+abbrev Inv-loop : tie.InvT-loop
+Inv-loop text held₀ k₀ held k = k ≤ 256
+
+abbrev μ-loop : tie.MeasureT-loop
+μ-loop text held₀ k₀ held k = 256 - k
+
+fresh-requires : tie.Need-fresh-requires Inv-loop μ-loop
+fresh-requires c κs = search needs
+
+loop-holds : tie.Need-loop-holds Inv-loop μ-loop
+loop-holds c = search needs
+
+next-requires : tie.Need-next-requires Inv-loop μ-loop
+next-requires c κs = search needs
+
+add-k : tie.Need-add-k Inv-loop μ-loop
+add-k c = search needs
+
+loop-less : tie.Need-loop-less Inv-loop μ-loop
+loop-less c = search needs
+
+loop-again : tie.Need-loop-again Inv-loop μ-loop
+loop-again c = search needs
+
+returns : tie.Need-returns Inv-loop μ-loop
+returns c = search needs
+
+pub replay-spec : {M : Type 1} → statement M
+replay-spec =
+    tie.close
+    (tie.spec
+    Inv-loop
+    μ-loop
+    fresh-requires
+    loop-holds
+    next-requires
+    add-k
+    loop-less
+    loop-again
+    returns)

@@ -1,0 +1,291 @@
+// The stored list, call by call.
+ghost use Prim.Native.Nat.{_≤_};
+use crate::print;
+use crate::rows;
+use crate::rows::Row16;
+use crate::rows::Row32;
+use crate::state;
+use crate::state::Held;
+use crate::words;
+use crate::words::Stretch;
+use nsq::entry;
+use nsq::entry::Answered;
+use refusals::answer::Answer;
+use refusals::count;
+use silk::structs::NsqState;
+use silk::structs::Settings;
+
+fn echo(text: &[u8], w: Stretch) {
+    let from = w.from;
+    let to = w.to;
+    if to <= text.len() {
+        if from <= to {
+            io::write_all(1, b"call ");
+            io::write_all(1, &text[from..to]);
+            io::write_all(1, b"\n");
+        }
+    }
+}
+
+// The length of the row for the pulses: n times L. Another n than 2 or 4, or an L above 80, is refused before a row is looked at.
+fn frame_length(s: Settings) -> usize
+    ensures { λ r. ⌜ r ≤ 320 ⌝ }
+{
+    let l = rows::kept(count::count(s.subfr_length));
+    if s.nb_subfr == 4 {
+        return rows::kept(4 * l);
+    }
+    rows::kept(2 * l)
+}
+
+fn settings_of(words: [i32; 320]) -> Settings {
+    Settings {
+        subfr_length: words[0],
+        nb_subfr: words[1],
+        predictLPCOrder: words[2],
+        shapingLPCOrder: words[3],
+        nStatesDelayedDecision: words[4],
+        warping_Q16: words[5],
+        signalType: words[6],
+        quantOffsetType: words[7],
+        NLSFInterpCoef_Q2: words[8],
+        Seed: words[9],
+        Lambda_Q10: words[10],
+        LTP_scale_Q14: words[11],
+    }
+}
+
+// Document 01's number of an answer.
+fn number_of(a: Answer) -> i32 {
+    match a {
+        Answer::Accepted => 0,
+        Answer::Lengths => 1,
+        Answer::Orders => 2,
+        Answer::Paths => 3,
+        Answer::Kinds => 4,
+        Answer::Rows => 5,
+        Answer::Gains => 6,
+        Answer::Lags => 7,
+    }
+}
+
+// The state that a call starts from: `state fresh`, `state prev` or `state given` with its words.
+fn chosen(text: &[u8], at: usize, before: Held) -> Held {
+    let word = words::span(text, at);
+    let mode = words::span(text, word.to);
+    let m = words::letter(text, mode.from);
+    if m == 103 {
+        return state::given(text, mode.to);
+    }
+    if m == 112 {
+        let same = before.state;
+        return Held {
+            state: same,
+            rand_seed: before.rand_seed,
+            at: mode.to,
+        };
+    }
+    Held {
+        state: NsqState::fresh(),
+        rand_seed: 0,
+        at: mode.to,
+    }
+}
+
+// What is printed of a call that was answered.
+fn printed(
+    number: i32,
+    seed: i32,
+    next: NsqState,
+    rand_seed: i32,
+    out: &[i8],
+    n: usize,
+    history: usize,
+) {
+    print::line(b"answer ", number);
+    print::line(b"seed ", seed);
+    if number == 0 {
+        print::pulses(out, n);
+        print::counting(next, history);
+    }
+    print::full(next, rand_seed);
+}
+
+// The call, of whose rows the first words are lent.
+fn called(
+    s: Settings,
+    state: NsqState,
+    out: &mut [i8],
+    outN: usize,
+    x: &[i16],
+    xN: usize,
+    pred: &[i16],
+    predN: usize,
+    long: &[i16],
+    longN: usize,
+    ar: &[i16],
+    arN: usize,
+    harm: &[i32],
+    harmN: usize,
+    tilt: &[i32],
+    tiltN: usize,
+    lf: &[i32],
+    lfN: usize,
+    gains: &[i32],
+    gainsN: usize,
+    lags: &[i32],
+    lagsN: usize,
+) -> Answered {
+    let out_end = rows::within(outN, out.len());
+    let x_end = rows::within(xN, x.len());
+    let pred_end = rows::within(predN, pred.len());
+    let long_end = rows::within(longN, long.len());
+    let ar_end = rows::within(arN, ar.len());
+    let harm_end = rows::within(harmN, harm.len());
+    let tilt_end = rows::within(tiltN, tilt.len());
+    let lf_end = rows::within(lfN, lf.len());
+    let gains_end = rows::within(gainsN, gains.len());
+    let lags_end = rows::within(lagsN, lags.len());
+    entry::silk_NSQ_del_dec(
+        s,
+        state,
+        &x[0..x_end],
+        &mut out[0..out_end],
+        &pred[0..pred_end],
+        &long[0..long_end],
+        &ar[0..ar_end],
+        &harm[0..harm_end],
+        &tilt[0..tilt_end],
+        &lf[0..lf_end],
+        &gains[0..gains_end],
+        &lags[0..lags_end],
+    )
+}
+
+// A call with its ten rows, answered and printed. What is handed back is the state after it.
+fn answered(
+    s: Settings,
+    from: Held,
+    x: Row16,
+    pred: Row16,
+    long: Row16,
+    ar: Row16,
+    harm: Row32,
+    tilt: Row32,
+    lf: Row32,
+    gains: Row32,
+    lags: Row32,
+) -> Held {
+    let n = frame_length(s);
+    let mut space = [0i8; 320];
+    let state = from.state;
+    let x_words = rows::halves_of(x);
+    let pred_words = rows::halves_of(pred);
+    let long_words = rows::halves_of(long);
+    let ar_words = rows::halves_of(ar);
+    let harm_words = rows::words_of(harm);
+    let tilt_words = rows::words_of(tilt);
+    let lf_words = rows::words_of(lf);
+    let gains_words = rows::words_of(gains);
+    let lags_words = rows::words_of(lags);
+    let r = called(
+        s,
+        state,
+        &mut space,
+        n,
+        &x_words,
+        x.count,
+        &pred_words,
+        pred.count,
+        &long_words,
+        long.count,
+        &ar_words,
+        ar.count,
+        &harm_words,
+        harm.count,
+        &tilt_words,
+        tilt.count,
+        &lf_words,
+        lf.count,
+        &gains_words,
+        gains.count,
+        &lags_words,
+        lags.count,
+    );
+    let next = r.state;
+    let answer = r.answer;
+    let history = 4 * rows::kept(count::count(s.subfr_length));
+    printed(
+        number_of(answer),
+        r.seed,
+        next,
+        from.rand_seed,
+        &space,
+        n,
+        history,
+    );
+    Held {
+        state: next,
+        rand_seed: from.rand_seed,
+        at: from.at,
+    }
+}
+
+// The call whose rows start at a place.
+fn call(text: &[u8], at: usize, before: Held) -> Held {
+    let a = rows::words_row(text, at);
+    let x = rows::halves_row(text, a.at);
+    let pred = rows::halves_row(text, x.at);
+    let long = rows::halves_row(text, pred.at);
+    let ar = rows::halves_row(text, long.at);
+    let harm = rows::words_row(text, ar.at);
+    let tilt = rows::words_row(text, harm.at);
+    let lf = rows::words_row(text, tilt.at);
+    let gains = rows::words_row(text, lf.at);
+    let lags = rows::words_row(text, gains.at);
+    let from = chosen(text, lags.at, before);
+    let first = a.words;
+    answered(
+        settings_of(first),
+        from,
+        x,
+        pred,
+        long,
+        ar,
+        harm,
+        tilt,
+        lf,
+        gains,
+        lags,
+    )
+}
+
+// The next call of the list, if there is one.
+fn next(text: &[u8], held: Held) -> Held {
+    let word = words::span(text, held.at);
+    if words::letter(text, word.from) != 99 {
+        return held;
+    }
+    let name = words::span(text, word.to);
+    echo(text, name);
+    let after = call(text, name.to, held);
+    let go = words::span(text, after.at);
+    let state = after.state;
+    Held {
+        state: state,
+        rand_seed: after.rand_seed,
+        at: go.to,
+    }
+}
+
+// All calls of the list, at most 256.
+pub fn replay(text: &[u8]) {
+    let mut held = Held {
+        state: NsqState::fresh(),
+        rand_seed: 0,
+        at: 0,
+    };
+    for k in 0usize..256 {
+        held = next(text, held);
+    }
+}
