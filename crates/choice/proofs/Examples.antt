@@ -5,7 +5,7 @@ use mathlib.Core.List.{List, [], _∷_, map}
 use lib.IntN.{ℤ, pos, negsuc}
 use Rattle.fixed.specs.Wrap.{wrapTo, wrap32, wrap16}
 use Rattle.fixed.specs.Shift.{shr, shl32, shr32}
-use Rattle.fixed.specs.Product.{smulbb, smlabb}
+use Rattle.products.specs.Product.{smulbb, smlabb}
 use Rattle.choice.specs.declared.candidate.Choice.{Choice}
 use Rattle.fixed.specs.Range.{clamp}
 use Rattle.choice.specs.Residual.{turned, signedResidual}

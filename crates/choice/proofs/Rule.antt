@@ -10,7 +10,7 @@ use mir.Syntax.{w16, w32}
 use mir.Val.{SFits}
 use Rattle.fixed.specs.Wrap.{wrap32, wrap16}
 use Rattle.fixed.specs.Shift.{shr, shl32, shr32}
-use Rattle.fixed.specs.Product.{smulbb, smlabb}
+use Rattle.products.specs.Product.{smulbb, smlabb}
 use Rattle.fixed.proofs.Lin.{P, N, eq-of, add-lin, sub-lin-Z}
 use Rattle.fixed.proofs.Wraps.{wrap32-id, wrap16-id}
 use Rattle.fixed.proofs.Fit.{fit16-32}

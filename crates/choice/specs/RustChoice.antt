@@ -7,7 +7,7 @@ use lib.IntN.{ℤ, pos, negsuc, negℤ, _+ℤ_, _-ℤ_}
 use lib.Signed.{ltZ, quotZ}
 use Rattle.fixed.specs.Wrap.{wrap32}
 use Rattle.fixed.specs.Shift.{shl32, shr32}
-use Rattle.fixed.specs.Product.{smulbb, smlabb}
+use Rattle.products.specs.Product.{smulbb, smlabb}
 use Rattle.fixed.specs.Iter.{either}
 use Rattle.choice.specs.declared.level.Pair.{Pair}
 use Rattle.choice.specs.declared.candidate.Choice.{Choice}

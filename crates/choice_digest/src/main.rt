@@ -5,9 +5,9 @@
 // loop over the lines of NSQ_del_dec.rs, cut out unchanged into a function, and over its offset table. That file says how to repeat it.
 use choice::candidate;
 use choice::offset;
-use fixed::generator;
 use fixed::shift;
 use fixed::wrap;
+use products::generator;
 
 // The Lambdas where a step of the choice changes its ways, and the ends of the types.
 const NAMED: [i32; 64] = [

@@ -13,16 +13,6 @@ use Rattle.fixed.proofs.wrap.sub32.Reads as sub32
 use Rattle.fixed.proofs.wrap.neg32.Reads as neg32
 use Rattle.fixed.proofs.wrap.mul32.Reads as mul32
 use Rattle.fixed.proofs.wrap.mul_u32.Reads as mul-u32
-use Rattle.fixed.proofs.product.mul16.Reads as mul16
-use Rattle.fixed.proofs.product.smulbb.Reads as smulbb
-use Rattle.fixed.proofs.product.smlabb.Reads as smlabb
-use Rattle.fixed.proofs.product.smulwb.Reads as smulwb
-use Rattle.fixed.proofs.product.smlawb.Reads as smlawb
-use Rattle.fixed.proofs.product.smulwt.Reads as smulwt
-use Rattle.fixed.proofs.product.smlawt.Reads as smlawt
-use Rattle.fixed.proofs.product.smulww.Reads as smulww
-use Rattle.fixed.proofs.product.smlaww.Reads as smlaww
-use Rattle.fixed.proofs.product.smmul.Reads as smmul
 use Rattle.fixed.proofs.shift.shl32.Reads as shl32
 use Rattle.fixed.proofs.shift.shr32.Reads as shr32
 use Rattle.fixed.proofs.shift.rshift_round4.Reads as rshift-round4
@@ -37,7 +27,6 @@ use Rattle.fixed.proofs.range.clamp32.Reads as clamp32
 use Rattle.fixed.proofs.range.sat16.Reads as sat16
 use Rattle.fixed.proofs.range.min32.Reads as min32
 use Rattle.fixed.proofs.range.abs32.Reads as abs32
-use Rattle.fixed.proofs.generator.rand.Reads as rand
 
 pub low32-unique : (κs a r s e : _) → low32.Post κs a r e → low32.Post κs a s e → r ≡ s
 low32-unique κs a r s e p q = p ∙ sym q
@@ -74,36 +63,6 @@ mul32-unique κs a r s e p q = p ∙ sym q
 
 pub mul-u32-unique : (κs a r s e : _) → mul-u32.Post κs a r e → mul-u32.Post κs a s e → r ≡ s
 mul-u32-unique κs a r s e p q = p ∙ sym q
-
-pub mul16-unique : (κs a r s e : _) → mul16.Post κs a r e → mul16.Post κs a s e → r ≡ s
-mul16-unique κs a r s e p q = p ∙ sym q
-
-pub smulbb-unique : (κs a r s e : _) → smulbb.Post κs a r e → smulbb.Post κs a s e → r ≡ s
-smulbb-unique κs a r s e p q = p ∙ sym q
-
-pub smlabb-unique : (κs a r s e : _) → smlabb.Post κs a r e → smlabb.Post κs a s e → r ≡ s
-smlabb-unique κs a r s e p q = p ∙ sym q
-
-pub smulwb-unique : (κs a r s e : _) → smulwb.Post κs a r e → smulwb.Post κs a s e → r ≡ s
-smulwb-unique κs a r s e p q = p ∙ sym q
-
-pub smlawb-unique : (κs a r s e : _) → smlawb.Post κs a r e → smlawb.Post κs a s e → r ≡ s
-smlawb-unique κs a r s e p q = p ∙ sym q
-
-pub smulwt-unique : (κs a r s e : _) → smulwt.Post κs a r e → smulwt.Post κs a s e → r ≡ s
-smulwt-unique κs a r s e p q = p ∙ sym q
-
-pub smlawt-unique : (κs a r s e : _) → smlawt.Post κs a r e → smlawt.Post κs a s e → r ≡ s
-smlawt-unique κs a r s e p q = p ∙ sym q
-
-pub smulww-unique : (κs a r s e : _) → smulww.Post κs a r e → smulww.Post κs a s e → r ≡ s
-smulww-unique κs a r s e p q = p ∙ sym q
-
-pub smlaww-unique : (κs a r s e : _) → smlaww.Post κs a r e → smlaww.Post κs a s e → r ≡ s
-smlaww-unique κs a r s e p q = p ∙ sym q
-
-pub smmul-unique : (κs a r s e : _) → smmul.Post κs a r e → smmul.Post κs a s e → r ≡ s
-smmul-unique κs a r s e p q = p ∙ sym q
 
 pub shl32-unique : (κs a r s e : _) → shl32.Post κs a r e → shl32.Post κs a s e → r ≡ s
 shl32-unique κs a r s e p q = p ∙ sym q
@@ -146,6 +105,3 @@ min32-unique κs a r s e p q = p ∙ sym q
 
 pub abs32-unique : (κs a r s e : _) → abs32.Post κs a r e → abs32.Post κs a s e → r ≡ s
 abs32-unique κs a r s e p q = p ∙ sym q
-
-pub rand-unique : (κs a r s e : _) → rand.Post κs a r e → rand.Post κs a s e → r ≡ s
-rand-unique κs a r s e p q = p ∙ sym q

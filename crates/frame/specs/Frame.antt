@@ -2,25 +2,26 @@
 use Prim.Native.Nat.{ℕ, _+_, _-_, _*_, _<_}
 use mathlib.Core.Bool.{Bool, true, false}
 use mathlib.Core.List.{List, [], _∷_, _++_}
-use lib.ListN.{getD, set, take, drop, replicate}
+use lib.ListN.{getD, take, drop, replicate}
 use lib.IntN.{ℤ, pos}
 use Rattle.fixed.specs.Iter.{iter, either}
 use Rattle.silk.specs.State.{zeros}
 use Rattle.silk.specs.declared.structs.NsqState.{NsqState}
 use Rattle.silk.specs.Gains.{«gain_adj_Q16»}
-use Rattle.silk.specs.Filter.{analysis}
+use Rattle.analysis.specs.Filter.{analysis}
 use Rattle.path.specs.declared.structs.Path.{Path}
 use Rattle.path.specs.declared.structs.Fix.{Fix}
 use Rattle.path.specs.Data.{word, noPath, Paths, paths, Core, Running, Rows}
 use Rattle.among.specs.Among.{Rule}
 use Rattle.paths.specs.Subframe.{subframe}
 use Rattle.paths.specs.Scale.{filled, scaled}
-use Rattle.refusals.specs.Count.{natZ, sameZ}
-use Rattle.frame.specs.declared.call.Given.{Given}
+use Rattle.limits.specs.Count.{natZ, sameZ}
+use Rattle.calls.specs.declared.call.Given.{Given}
 use Rattle.frame.specs.declared.step.Prior.{Prior}
-use Rattle.frame.specs.Call.{Call, givenOf, lengthOf, countOf, pathsOf, sinceBy, secondBy, rewhitesBy, fixBy, rowsBy, whiteBy}
-use Rattle.frame.specs.Begin.{zeroPath, zeroLpcs, zeroRings, begun}
-use Rattle.frame.specs.Flush.{bestOf, fitMiddle, fitLast, Outs, flushed, othersRaised}
+use Rattle.calls.specs.Call.{Call, givenOf, lengthOf, countOf, pathsOf, sinceBy, secondBy, rewhitesBy, fixBy, rowsBy, whiteBy}
+use Rattle.edges.specs.Begin.{zeroPath, zeroLpcs, zeroRings, begun}
+use Rattle.edges.specs.Flush.{bestOf, fitMiddle, fitLast, Outs, flushed, othersRaised}
+use Rattle.edges.specs.Tail.{movedDown, wordsFrom}
 
 -- a frame in work: what a subframe works on, the filtered history, and the gain of the subframe before
 pub record Framed : Type 0 where
@@ -94,10 +95,6 @@ middleBy n l d gain t = middleWith n l d gain t (bestOf (t .core .ps .owns) n)
 -- start_idx
 abbrev pub startIdx : Fix → ℕ
 startIdx f = 4 * f .«subfr_length» - f .lag - 2 - f .predictLPCOrder
-
--- there is room for it in the history of 4L words: start_idx is above 0
-pub record Room (f : Fix) : Type 0 where
-  pub room : f .lag + f .predictLPCOrder + 2 < 4 * f .«subfr_length»
 
 -- a row of 640 words with m words of the history from `from` on filtered into it from `start` on; the words before it stay.
 -- (The last part is what lies past the 640 words: nothing.)
@@ -205,23 +202,6 @@ runBy rule g x pred ltp ar tilt harm lf gains lags n t = iter (turnBy rule g x p
 -- all subframes of a call
 unfoldable pub run : Rule → Call → List ℤ → List ℤ → Framed
 run rule c x out = iter (subframeTurn rule c x) (countOf c) (start c out)
-
--- ---- the end
--- m words of a row move down by s
-abbrev pub downTurn : ℕ → ℕ → List ℤ → List ℤ
-downTurn s j l = set l j (word l (s + j))
-
--- ..
-unfoldable pub movedDown : ℕ → ℕ → List ℤ → List ℤ
-movedDown s m l = iter (downTurn s) m l
-
--- the first m words of a row become those of another from a on
-abbrev pub wordsTurn : List ℤ → ℕ → ℕ → List ℤ → List ℤ
-wordsTurn from a j l = set l j (word from (a + j))
-
--- ..
-unfoldable pub wordsFrom : List ℤ → ℕ → ℕ → List ℤ → List ℤ
-wordsFrom from a m l = iter (wordsTurn from a) m l
 
 -- what an accepted call hands back
 pub record Done : Type 0 where

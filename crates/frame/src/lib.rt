@@ -1,11 +1,7 @@
 // A whole frame of the quantiser: `silk_NSQ_del_dec_c` of NSQ_del_dec.rs.
 mod before;
-pub mod begin;
-pub mod call;
-pub mod ends;
 mod middle;
 mod regain;
 pub mod step;
-pub mod tail;
 pub mod turn;
 mod white;

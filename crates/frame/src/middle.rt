@@ -7,7 +7,7 @@ ghost use lib.IntN.{ℤ};
 ghost use Rattle.path.specs.Data.{running};
 ghost use Rattle.paths.specs.Subframe.{Fits};
 ghost use Rattle.frame.specs.Frame.{middleBy, flushedFirst};
-use crate::ends;
+use edges::ends;
 use path::structs::Fix;
 use path::structs::Work;
 

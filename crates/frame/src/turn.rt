@@ -8,13 +8,13 @@ ghost use lib.Signed.{_≤ℤ_};
 ghost use Rattle.path.specs.Data.{rows, running};
 ghost use Rattle.among.specs.Among.{keepsFirst};
 ghost use Rattle.paths.specs.Subframe.{Fits};
-ghost use Rattle.frame.specs.Call.{Sound, Stocked};
-ghost use Rattle.frame.specs.Frame.{Room, framedOf, stepBy, priorBy, turnBy};
-use crate::call;
-use crate::call::Given;
+ghost use Rattle.calls.specs.Call.{Sound, Stocked, Room};
+ghost use Rattle.frame.specs.Frame.{framedOf, stepBy, priorBy, turnBy};
 use crate::step;
 use crate::step::Frame;
 use crate::step::Prior;
+use calls::call;
+use calls::call::Given;
 use path::structs::Fix;
 use path::structs::Halves;
 

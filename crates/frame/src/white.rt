@@ -5,10 +5,11 @@ ghost use Rattle.fixed.specs.Iter.{either};
 ghost use Rattle.paths.specs.Scale.{filled};
 ghost use Rattle.paths.specs.Subframe.{Fits};
 ghost use lib.ListN.{length};
-ghost use Rattle.frame.specs.Frame.{rewhitened as rewhitenedZ, rewhitenedAt, Room};
+ghost use Rattle.calls.specs.Call.{Room};
+ghost use Rattle.frame.specs.Frame.{rewhitened as rewhitenedZ, rewhitenedAt};
+use analysis::lpc_analysis_filter;
 use path::structs::Fix;
 use paths::scale;
-use silk::lpc_analysis_filter;
 
 // The history from `from` on, m words, filtered into the row from `start` on; the words before stay.
 fn rewhitened(

@@ -7,9 +7,10 @@ use lib.ListN.{replicate}
 use lib.IntN.{ℤ, pos}
 use Rattle.silk.specs.State.{zeros, freshState}
 use Rattle.refusals.specs.Code.{codeOf}
-use Rattle.refusals.specs.Table.{outside, lengthAllowed, countAllowed, orderFor, oddZ, lengthsRefused, ordersRefused, pathsRefused, kindsRefused, eachRefused, rowsRefused, gainRefused, someGain, gainsRefused, lagRefused, quietLagRefused, someLag, lastOf, lagsRefused, table, answerOf}
+use Rattle.limits.specs.Tests.{outside, lengthAllowed, countAllowed, orderFor, oddZ, lengthsRefused, ordersRefused, pathsRefused, kindsRefused, gainRefused, someGain, gainsRefused, lagRefused, quietLagRefused, someLag, lastOf, lagsRefused}
+use Rattle.refusals.specs.Table.{eachRefused, rowsRefused, table, answerOf}
 use Rattle.silk.specs.declared.structs.Settings.{Settings}
-use Rattle.frame.specs.Call.{Call, callOf}
+use Rattle.calls.specs.Call.{Call, callOf}
 use Rattle.nsq.specs.Entry.{sizesOf, answered}
 
 -- the settings: shaping order 2, one path, interpolation 4, all else 0

@@ -8,7 +8,7 @@ use borrow.Author.Tests.{ne-eqb}
 use Rattle.among.specs.Among.{Rule}
 use Rattle.refusals.specs.declared.answer.Answer.{Answer}
 use Rattle.refusals.specs.Code.{codeOf}
-use Rattle.frame.specs.Call.{Call}
+use Rattle.calls.specs.Call.{Call}
 use Rattle.frame.specs.Frame.{frame}
 use Rattle.nsq.specs.Entry.{outcomeBy, taken, untouched}
 

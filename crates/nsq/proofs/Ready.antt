@@ -12,8 +12,8 @@ use Rattle.silk.proofs.structs.NsqState as state-type
 use Rattle.silk.proofs.structs.NsqState.Laws as state-laws
 use Rattle.path.proofs.Told.{Told, Back}
 use Rattle.refusals.specs.Good.{Good}
-use Rattle.frame.specs.Call.{Call, givenOf, countOf, lengthOf, Sound, Stocked}
-use Rattle.frame.proofs.Sound.{sound-of, stocked-by, counts}
+use Rattle.calls.specs.Call.{Call, givenOf, countOf, lengthOf, Sound, Stocked}
+use Rattle.calls.proofs.Sound.{sound-of, stocked-by, counts}
 use Rattle.nsq.specs.Entry.{sizesOf}
 
 -- ---- a good call

@@ -12,7 +12,7 @@ use Rattle.refusals.specs.declared.answer.Answer.{Answer}
 use Rattle.refusals.specs.declared.answer.Sizes.{Sizes}
 use Rattle.refusals.specs.Code.{codeOf}
 use Rattle.refusals.specs.Table.{answerOf}
-use Rattle.frame.specs.Call.{Call}
+use Rattle.calls.specs.Call.{Call}
 use Rattle.frame.specs.Frame.{Done, frame}
 
 -- what comes of a call

@@ -7,13 +7,13 @@ ghost use lib.ListN.{length};
 ghost use lib.IntN.{ℤ, pos};
 ghost use Rattle.fixed.specs.Iter.{either};
 ghost use Rattle.path.specs.Data.{running};
-ghost use Rattle.frame.specs.Call.{sinceBy, rewhitesBy};
+ghost use Rattle.calls.specs.Call.{sinceBy, rewhitesBy};
 ghost use Rattle.frame.specs.Frame.{framedOf, leftBy, doneOf, endedBy};
-use frame::call;
-use frame::call::Given;
-use frame::ends;
+use calls::call;
+use calls::call::Given;
+use edges::ends;
+use edges::tail;
 use frame::step::Frame;
-use frame::tail;
 use path::structs::Path;
 use silk::structs::NsqState;
 

@@ -2,7 +2,7 @@
 ghost use denote.Ref.{now};
 ghost use mathlib.Core.Path.{_≡_};
 ghost use Rattle.among.specs.Among.{keepsFirst};
-ghost use Rattle.frame.specs.Call.{callOf};
+ghost use Rattle.calls.specs.Call.{callOf};
 ghost use Rattle.nsq.specs.Entry.{outcomeOf, outcome};
 use crate::accepted;
 use refusals::answer::Answer;

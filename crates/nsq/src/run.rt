@@ -7,9 +7,9 @@ ghost use lib.IntN.{pos};
 ghost use lib.Signed.{_≤ℤ_};
 ghost use Rattle.path.specs.Data.{running};
 ghost use Rattle.among.specs.Among.{keepsFirst};
-ghost use Rattle.frame.specs.Call.{Sound, Stocked};
+ghost use Rattle.calls.specs.Call.{Sound, Stocked};
 ghost use Rattle.frame.specs.Frame.{framedOf, runBy};
-use frame::call::Given;
+use calls::call::Given;
 use frame::step::Frame;
 use frame::turn;
 

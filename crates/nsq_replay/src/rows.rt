@@ -1,7 +1,7 @@
 // A row of a call: its count, and that many numbers.
 ghost use Prim.Native.Nat.{_≤_};
 use crate::words;
-use refusals::count;
+use limits::count;
 
 // The first `count` words are the row's, and the place after it.
 pub struct Row32 {

@@ -8,10 +8,10 @@ use crate::state;
 use crate::state::Held;
 use crate::words;
 use crate::words::Stretch;
+use limits::count;
 use nsq::entry;
 use nsq::entry::Answered;
 use refusals::answer::Answer;
-use refusals::count;
 use silk::structs::NsqState;
 use silk::structs::Settings;
 

@@ -6,9 +6,9 @@ use lib.ListN.{getD}
 use lib.IntN.{ℤ, _+ℤ_, _-ℤ_}
 use Rattle.fixed.specs.Wrap.{wrap32, wrap16}
 use Rattle.fixed.specs.Shift.{shl32}
-use Rattle.fixed.specs.Generator.{rand}
+use Rattle.products.specs.Generator.{rand}
 use Rattle.shaping.specs.Taps.{shortPrediction}
-use Rattle.shaping.specs.WarpedFilter.{Filter, warpedFilter}
+use Rattle.warped.specs.WarpedFilter.{Filter, warpedFilter}
 use Rattle.shaping.specs.NoiseTerms.{arTerm, lfTerm}
 use Rattle.shaping.specs.Residual.{residual}
 use Rattle.choice.specs.declared.candidate.Choice.{Choice}

@@ -4,7 +4,7 @@ use mathlib.Core.List.{List, []}
 use lib.ListN.{getD, set}
 use lib.IntN.{ℤ}
 use Rattle.fixed.specs.Iter.{iter}
-use Rattle.fixed.specs.Product.{smulww}
+use Rattle.products.specs.Product.{smulww}
 use Rattle.path.specs.declared.structs.Path.{Path}
 use Rattle.path.specs.Data.{word, ringPred, ringShape}
 use Rattle.path.specs.Taken.{Whole, whole}

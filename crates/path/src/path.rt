@@ -19,12 +19,12 @@ use crate::structs::Terms;
 use crate::structs::XQ_Q14;
 use choice::candidate;
 use choice::residual;
-use fixed::generator;
 use fixed::shift;
 use fixed::wrap;
+use products::generator;
 use shaping::noise_terms;
 use shaping::short_prediction;
-use shaping::warped_filter;
+use warped::warped_filter;
 
 impl Candidate {
     pub fn zero() -> Self

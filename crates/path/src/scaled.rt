@@ -7,7 +7,7 @@ ghost use Rattle.path.specs.Scaled.{scaledWords, scaledPath};
 use crate::structs::PRED_Q15;
 use crate::structs::Path;
 use crate::structs::SHAPE_Q14;
-use fixed::product;
+use products::product;
 
 // The words a .. a + m of a row times the change of gain.
 pub fn scaled_words(row: &mut [i32], adj: i32, a: usize, m: usize)

@@ -6,7 +6,7 @@ use mathlib.Core.List.{List}
 use lib.ListN.{set}
 use lib.IntN.{ℤ}
 use Rattle.fixed.specs.Iter.{iter, either}
-use Rattle.fixed.specs.Product.{smulwb}
+use Rattle.products.specs.Product.{smulwb}
 use Rattle.path.specs.declared.structs.Fix.{Fix}
 use Rattle.path.specs.Data.{word, Paths, Running}
 use Rattle.path.specs.Taken.{pathAt, pathSet}

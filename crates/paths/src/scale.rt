@@ -7,11 +7,11 @@ ghost use Rattle.path.specs.Data.{paths, running};
 ghost use Rattle.paths.specs.Subframe.{Fits};
 ghost use Rattle.path.specs.Scaled.{scaledWords};
 ghost use Rattle.paths.specs.Scale.{filled as filledZ, scaledPaths, scaledWork, scaled as scaledZ};
-use fixed::product;
 use path::scaled;
 use path::structs::Fix;
 use path::structs::Path;
 use path::structs::Work;
+use products::product;
 
 // The words a .. a + m of the work row from those of the filtered history, each times the inverse gain.
 pub fn filled(row: &mut [i32; 640], sltp: &[i16; 640], inv: i32, a: usize, m: usize)

@@ -17,10 +17,11 @@ use Rattle.silk.specs.declared.structs.Settings.{Settings}
 use Rattle.refusals.specs.declared.answer.Answer.the-variants.{Accepted}
 use Rattle.refusals.specs.declared.answer.Sizes.{Sizes}
 use Rattle.refusals.specs.Code.{codeOf}
-use Rattle.refusals.specs.Count.{natZ, sameZ}
+use Rattle.limits.specs.Count.{natZ, sameZ}
 use Rattle.refusals.specs.Good.{Among, GoodLength, GoodCount, GoodOrder, GoodShaping, GoodLag, QuietLag, GoodSettings, GoodRows, GoodGains, GoodLags, Good}
-use Rattle.refusals.specs.Table.{outside, lengthAllowed, countAllowed, orderFor, oddZ, some, another, lengthsRefused, ordersRefused, pathsRefused, kindsRefused, eachRefused, rowsRefused, gainRefused, someGain, gainsRefused, lagRefused, quietLagRefused, someLag, lastOf, lagsRefused, table, answerOf}
-use Rattle.refusals.proofs.Laws.{same-true, or-false, or-elim, some-false}
+use Rattle.limits.specs.Tests.{outside, lengthAllowed, countAllowed, orderFor, oddZ, some, lengthsRefused, ordersRefused, pathsRefused, kindsRefused, gainRefused, someGain, gainsRefused, lagRefused, quietLagRefused, someLag, lastOf, lagsRefused}
+use Rattle.refusals.specs.Table.{another, eachRefused, rowsRefused, table, answerOf}
+use Rattle.limits.proofs.Laws.{same-true, or-false, or-elim, some-false}
 use Rattle.refusals.proofs.Exactly.{exactly-accepted}
 
 -- ---- one setting

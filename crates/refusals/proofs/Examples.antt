@@ -8,8 +8,9 @@ use lib.IntN.{ℤ, pos, negsuc}
 use Rattle.silk.specs.declared.structs.Settings.{Settings}
 use Rattle.refusals.specs.declared.answer.Sizes.{Sizes}
 use Rattle.refusals.specs.Code.{codeOf}
-use Rattle.refusals.specs.Count.{natZ}
-use Rattle.refusals.specs.Table.{outside, lengthAllowed, countAllowed, orderFor, oddZ, lengthsRefused, ordersRefused, pathsRefused, kindsRefused, eachRefused, rowsRefused, gainRefused, someGain, gainsRefused, lagRefused, quietLagRefused, someLag, lastOf, lagsRefused, table, answerOf}
+use Rattle.limits.specs.Count.{natZ}
+use Rattle.limits.specs.Tests.{outside, lengthAllowed, countAllowed, orderFor, oddZ, lengthsRefused, ordersRefused, pathsRefused, kindsRefused, gainRefused, someGain, gainsRefused, lagRefused, quietLagRefused, someLag, lastOf, lagsRefused}
+use Rattle.refusals.specs.Table.{eachRefused, rowsRefused, table, answerOf}
 
 -- the settings of a call: L, n, prediction order, path count, signal type; shaping order 2, all else 0
 pub set : ℤ → ℤ → ℤ → ℤ → ℤ → Settings

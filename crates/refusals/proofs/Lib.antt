@@ -1,6 +1,5 @@
--- Laws: tests and counts. Exactly: document 01's table, word for word. Accept: an accepted call is good. Room: what the frame takes of
+-- Exactly: document 01's table, word for word. Accept: an accepted call is good. Room: what the frame takes of
 -- that. Matched: a match on an answer. Examples: calls, by computation. Unique: each contract leaves one outcome.
-pub mod Laws
 pub mod Exactly
 pub mod Accept
 pub mod Room

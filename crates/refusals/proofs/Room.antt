@@ -5,7 +5,7 @@ use native.Mathlib.Nat.{mul-le-mul-right}
 use mathlib.Core.Path.{_≡_, ap}
 use mathlib.Core.Logic.{inl, inr}
 use lib.IntN.{ℤ}
-use Rattle.refusals.specs.Count.{natZ}
+use Rattle.limits.specs.Count.{natZ}
 use Rattle.refusals.specs.Good.{GoodLength, GoodCount, GoodOrder, GoodLag, QuietLag}
 
 -- the ends of the lags are whole numbers: 2L/5 is 8 times L/20, and 18L/5 is 72 times L/20

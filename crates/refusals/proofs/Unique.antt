@@ -2,10 +2,6 @@
 -- reads them, so that these theorems cannot drift from the code. Assumes nothing.
 use mathlib.Core.Path.{_≡_, _∙_, sym}
 use Rattle.refusals.proofs.check.check.Reads as check
-use Rattle.refusals.proofs.count.count.Reads as count
 
 pub check-unique : (κs a r s e : _) → check.Post κs a r e → check.Post κs a s e → r ≡ s
 check-unique κs a r s e p q = p ∙ sym q
-
-pub count-unique : (κs a r s e : _) → count.Post κs a r e → count.Post κs a s e → r ≡ s
-count-unique κs a r s e p q = p ∙ sym q

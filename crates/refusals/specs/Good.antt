@@ -10,7 +10,7 @@ use lib.ListN.{getD, length}
 use lib.IntN.{ℤ, pos}
 use lib.Signed.{_≤ℤ_}
 use Rattle.silk.specs.declared.structs.Settings.{Settings}
-use Rattle.refusals.specs.Count.{natZ, sameZ}
+use Rattle.limits.specs.Count.{natZ, sameZ}
 use Rattle.refusals.specs.declared.answer.Sizes.{Sizes}
 
 -- z is a count from lo to hi

@@ -1,4 +1,3 @@
-pub mod Count
 pub mod Table
 pub mod Code
 pub mod Good

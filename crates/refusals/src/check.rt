@@ -4,10 +4,10 @@ ghost use mathlib.Core.Path.{_≡_};
 ghost use Rattle.refusals.specs.Table.{answerOf};
 use crate::answer::Answer;
 use crate::answer::Sizes;
-use crate::gains;
-use crate::lags;
 use crate::rows;
-use crate::settings;
+use limits::gains;
+use limits::lags;
+use limits::settings;
 use silk::structs::Settings;
 
 // The first refusal of document 01's table that applies, else accepted. `lagPrev` and `prev_gain_Q16` are the state's.

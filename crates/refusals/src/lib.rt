@@ -2,8 +2,4 @@
 // call has its answer, whatever its numbers and the lengths of its rows are, and no word of a row is read that is not there.
 pub mod answer;
 pub mod check;
-pub mod count;
-mod gains;
-mod lags;
 mod rows;
-mod settings;

@@ -3,7 +3,7 @@ ghost use mathlib.Core.Path.{_≡_};
 ghost use Prim.Native.Nat.{ℕ};
 ghost use Rattle.refusals.specs.Table.{eachRefused, rowsRefused};
 use crate::answer::Sizes;
-use crate::count;
+use limits::count;
 
 // The rows that have one word for each subframe.
 fn each_refused(n: usize, z: Sizes, gains: usize, lags: usize) -> bool

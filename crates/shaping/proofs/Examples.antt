@@ -5,7 +5,7 @@ use lib.IntN.{pos, negsuc}
 use Rattle.fixed.specs.Wrap.{wrapTo, wrap8, wrap32}
 use Rattle.fixed.specs.Range.{clamp, sat16}
 use Rattle.fixed.specs.Shift.{shr, shr32, shl32, or32, rround}
-use Rattle.fixed.specs.Product.{smulww}
+use Rattle.products.specs.Product.{smulww}
 use Rattle.shaping.specs.Harmonic.{packedGain}
 use Rattle.shaping.specs.Output.{pulseOf, xqOut}
 use Rattle.shaping.specs.Residual.{predicted, residual}

@@ -1,10 +1,9 @@
 -- Each contract leaves one outcome: two results that meet it are equal, and so are the words that a row is left with.
 -- Assumes nothing.
 use mathlib.Core.Path.{_≡_, sym, _∙_}
-use denote.Ref.{now}
 use Rattle.shaping.proofs.short_prediction.silk_noise_shape_quantizer_short_prediction.Reads as short-prediction
 use Rattle.shaping.proofs.long_prediction.ltp_prediction.Reads as ltp-prediction
-use Rattle.shaping.proofs.warped_filter.warped_filter.Reads as warped-filter
+use Rattle.shaping.proofs.start.half_order.Reads as half-order
 use Rattle.shaping.proofs.noise_terms.n_AR.Reads as n-AR
 use Rattle.shaping.proofs.noise_terms.n_LF.Reads as n-LF
 use Rattle.shaping.proofs.harmonic.harm_shape_packed.Reads as harm-shape-packed
@@ -44,5 +43,5 @@ xq-out8-unique κs a r s e p q = p ∙ sym q
 pub xq-out14-unique : (κs a r s e : _) → xq-out14.Post κs a r e → xq-out14.Post κs a s e → r ≡ s
 xq-out14-unique κs a r s e p q = p ∙ sym q
 
-pub warped-filter-unique : (κs a r s e f : _) → warped-filter.Post κs a r e → warped-filter.Post κs a s f → (r ≡ s) × (now (e .0) ≡ now (f .0))
-warped-filter-unique κs a r s e f p q = (p .0 ∙ sym (q .0), p .1 ∙ sym (q .1))
+pub half-order-unique : (κs a r s e : _) → half-order.Post κs a r e → half-order.Post κs a s e → r ≡ s
+half-order-unique κs a r s e p q = p ∙ sym q

@@ -6,7 +6,7 @@ use lib.IntN.{ℤ, pos, _+ℤ_, _-ℤ_}
 use lib.ListN.{getD}
 use Rattle.fixed.specs.Wrap.{wrap16, wrap32}
 use Rattle.fixed.specs.Shift.{or32, shl32, shr32}
-use Rattle.fixed.specs.Product.{smulwb, smlawt}
+use Rattle.products.specs.Product.{smulwb, smlawt}
 
 -- HarmShapeFIRPacked_Q14: gain >> 2, then |= (gain >> 1) << 16
 unfoldable pub packedGain : ℤ → ℤ

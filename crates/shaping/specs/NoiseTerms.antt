@@ -3,7 +3,7 @@
 use lib.IntN.{ℤ}
 use Rattle.fixed.specs.Wrap.{wrap16}
 use Rattle.fixed.specs.Shift.{shl32}
-use Rattle.fixed.specs.Product.{smulwb, smlawb, smlawt}
+use Rattle.products.specs.Product.{smulwb, smlawb, smlawt}
 
 -- n_AR_Q14 from the warped filter's sum n: << 1, then + (LF_AR_Q14 * (Tilt_Q14 as i16) >> 16), then << 2
 unfoldable pub arTerm : ℤ → ℤ → ℤ → ℤ

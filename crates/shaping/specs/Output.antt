@@ -5,7 +5,7 @@ use lib.IntN.{ℤ}
 use Rattle.fixed.specs.Wrap.{wrap8}
 use Rattle.fixed.specs.Shift.{rround}
 use Rattle.fixed.specs.Range.{sat16}
-use Rattle.fixed.specs.Product.{smulww}
+use Rattle.products.specs.Product.{smulww}
 
 -- the pulse of the level Q_Q10: rounded shift by 10, as i8
 unfoldable pub pulseOf : ℤ → ℤ

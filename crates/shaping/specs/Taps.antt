@@ -8,7 +8,7 @@ use lib.Dec.{eqb}
 use lib.IntN.{ℤ, pos}
 use lib.ListN.{getD}
 use Rattle.fixed.specs.Iter.{iter, either}
-use Rattle.fixed.specs.Product.{smlawb}
+use Rattle.products.specs.Product.{smlawb}
 use Rattle.fixed.specs.Shift.{shl32}
 
 -- tap j: out += row[at - j] * coef[j] >> 16

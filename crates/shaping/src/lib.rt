@@ -7,6 +7,5 @@ pub mod noise_terms;
 pub mod output;
 pub mod residual;
 pub mod short_prediction;
-mod start;
+pub mod start;
 mod taps;
-pub mod warped_filter;

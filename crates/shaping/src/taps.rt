@@ -3,7 +3,7 @@ ghost use mathlib.Core.Path.{_≡_};
 ghost use Prim.Native.Nat.{_+_, _≤_, _<_};
 ghost use lib.ListN.{length};
 ghost use Rattle.shaping.specs.Taps.{tapsFrom};
-use fixed::product;
+use products::product;
 
 // `count` taps from tap `from` on, added to `start`. Every call has a constant count, so that the compiler writes the
 // taps out, as the Rust does by hand: measured, that takes two thirds of the time of a loop over the order.

@@ -7,7 +7,7 @@ use shaping::noise_terms;
 use shaping::output;
 use shaping::residual;
 use shaping::short_prediction;
-use shaping::warped_filter;
+use warped::warped_filter;
 
 pub fn answer(function: usize, seed: i32, i: usize) -> i32 {
     match function {

@@ -8,9 +8,9 @@ mod answers;
 mod digest;
 mod words;
 
-use fixed::generator;
 use fixed::range;
 use fixed::wrap;
+use products::generator;
 
 const FUNCTIONS: usize = 12;
 

@@ -1,7 +1,7 @@
 // The arguments, made from a seed.
-use fixed::generator;
 use fixed::shift;
 use fixed::wrap;
+use products::generator;
 
 // The seed of the next argument.
 pub fn next(seed: i32) -> i32 {

@@ -7,7 +7,7 @@ use borrow.Author.Tests.{le-ltb}
 use mir.Syntax.{w32}
 use mir.Val.{SFits}
 use Rattle.fixed.specs.Range.{clamp}
-use Rattle.fixed.specs.Product.{smulww, smlaww}
+use Rattle.products.specs.Product.{smulww, smlaww}
 use Rattle.fixed.specs.Wrap.{wrap32}
 use Rattle.fixed.specs.Shift.{shr, shl32, shr32}
 use Rattle.fixed.proofs.Lin.{eq-of, neg-lin}

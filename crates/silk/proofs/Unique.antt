@@ -1,6 +1,5 @@
 -- Any two outcomes that a public function's contract allows are equal: each contract leaves one. Assumes nothing.
 use mathlib.Core.Path.{_≡_, sym, _∙_}
-use denote.Ref.{now}
 use Rattle.silk.proofs.inlines.silk_INVERSE32_varQ.Reads as silk-INVERSE32-varQ
 use Rattle.silk.proofs.inlines.silk_DIV32_varQ.Reads as silk-DIV32-varQ
 use Rattle.silk.proofs.gains.inv_gain_Q31.Reads as inv-gain-Q31
@@ -9,7 +8,6 @@ use Rattle.silk.proofs.gains.x_sc_Q10.Reads as x-sc-Q10
 use Rattle.silk.proofs.gains.ltp_scaled_inv_gain.Reads as ltp-scaled-inv-gain
 use Rattle.silk.proofs.gains.gain_adj_Q16.Reads as gain-adj-Q16
 use Rattle.silk.proofs.structs.NsqState.fresh.Reads as fresh
-use Rattle.silk.proofs.lpc_analysis_filter.silk_LPC_analysis_filter.Reads as silk-LPC-analysis-filter
 
 pub silk-INVERSE32-varQ-unique : (κs a r s e : _) → silk-INVERSE32-varQ.Post κs a r e → silk-INVERSE32-varQ.Post κs a s e → r ≡ s
 silk-INVERSE32-varQ-unique κs a r s e p q = p ∙ sym q
@@ -34,6 +32,3 @@ gain-adj-Q16-unique κs a r s e p q = p ∙ sym q
 
 pub fresh-unique : (κs a r s e : _) → fresh.Post κs a r e → fresh.Post κs a s e → r ≡ s
 fresh-unique κs a r s e p q = p ∙ sym q
-
-pub silk-LPC-analysis-filter-unique : (κs a r s e f : _) → silk-LPC-analysis-filter.Post κs a r e → silk-LPC-analysis-filter.Post κs a s f → now (e .0) ≡ now (f .0)
-silk-LPC-analysis-filter-unique κs a r s e f p q = p ∙ sym q

@@ -4,7 +4,7 @@ use lib.IntN.{ℤ, pos}
 use lib.Signed.{ltZ}
 use Rattle.fixed.specs.Wrap.{wrap16}
 use Rattle.fixed.specs.Shift.{shl32, rround}
-use Rattle.fixed.specs.Product.{smulwb}
+use Rattle.products.specs.Product.{smulwb}
 use Rattle.fixed.specs.Iter.{either}
 use Rattle.silk.specs.Inlines.{«silk_INVERSE32_varQ», «silk_DIV32_varQ»}
 

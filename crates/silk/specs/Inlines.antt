@@ -9,7 +9,7 @@ use lib.Signed.{quotZ}
 use Rattle.fixed.specs.Wrap.{wrap32, wrap16}
 use Rattle.fixed.specs.Shift.{shr, shl32, shr32, clz32}
 use Rattle.fixed.specs.Range.{clamp, abs32}
-use Rattle.fixed.specs.Product.{smulwb, smlawb, smlaww, smmul}
+use Rattle.products.specs.Product.{smulwb, smlawb, smlaww, smmul}
 use Rattle.fixed.specs.Iter.{either}
 
 -- a_headrm, b_headrm: silk_CLZ32(if x > 0 { x } else { -x }) - 1, how far |x| can go up and stay below 2^31

@@ -1,4 +1,3 @@
 pub mod Inlines
 pub mod Gains
-pub mod Filter
 pub mod State

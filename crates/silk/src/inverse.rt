@@ -4,10 +4,10 @@ ghost use Prim.Native.Nat.{_≤_, _<_};
 ghost use lib.IntN.{pos};
 ghost use lib.Signed.{_≤ℤ_};
 ghost use Rattle.silk.specs.Inlines.{headrm as headrmZ, nrm as nrmZ, «b32_inv» as b32Inv, «lshift_SAT32» as lshiftSat32, shifted as shiftedZ, refined as refinedZ, «result_2» as result2};
-use fixed::product;
 use fixed::range;
 use fixed::shift;
 use fixed::wrap;
+use products::product;
 
 // How far a number can go up and stay below 2^31.
 pub fn headrm(x: i32) -> u32

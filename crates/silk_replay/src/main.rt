@@ -9,7 +9,7 @@ mod arguments;
 mod numbers;
 mod rows;
 
-use fixed::generator;
+use products::generator;
 use silk::gains;
 use silk::inlines;
 

@@ -1,10 +1,10 @@
 // The analysis filter on rows of three kinds: any words, the two ends of the range, and small words.
 ghost use Prim.Native.Nat.{_≤_};
 use crate::numbers;
-use fixed::generator;
+use analysis::lpc_analysis_filter;
 use fixed::shift;
 use fixed::wrap;
-use silk::lpc_analysis_filter;
+use products::generator;
 
 // Rows and coefficients of each kind.
 pub fn filter_rows() {

@@ -1,5 +1,6 @@
 -- `fixed::wrap::neg32` meets its contract. Assumes nothing.
 use lib.IntN.{negℤ, +ℤ-idl}
+use mathlib.Core.Path.{_∙_}
 use borrow.Author.Needs.{needs}
 use Rattle.fixed.proofs.Fit.{fit, fit-neg, read, got32, wide32}
 use Rattle.fixed.proofs.wrap.neg32.Statement.{statement}
@@ -18,7 +19,7 @@ returns : tie.Need-returns
 returns c =
     let f = c .before .fits .a in
     let a = wide32 f in
-    cc (got32 (c .low32 .result) (c .low32 .ok), +ℤ-idl (negℤ (c .before .args .a)), read (fit-neg _ f))
+    got32 (c .low32 .result) (c .low32 .ok) ∙ rw (a .0, a .1, +ℤ-idl (negℤ (c .before .args .a)), read (fit-neg _ f)) at (c .low32 .ensures)
 
 pub neg32-spec : {M : Type 1} → statement M
 neg32-spec = tie.close (tie.spec cast-low32 sub-low32 low32-requires returns)

@@ -1,8 +1,6 @@
 -- `fixed::wrap::sub32` meets its contract. Assumes nothing.
-use mathlib.Core.Path.{_≡_, _∙_}
+use mathlib.Core.Path.{_∙_}
 use borrow.Author.Needs.{needs}
-use lib.IntN.{_-ℤ_}
-use Rattle.fixed.specs.Wrap.{wrap32}
 use Rattle.fixed.proofs.Fit.{fit, fit-sub, read, got32, wide32}
 use Rattle.fixed.proofs.wrap.sub32.Statement.{statement}
 use Rattle.fixed.proofs.wrap.sub32.Tie as tie
@@ -24,9 +22,7 @@ returns c =
     let f = c .before .fits in
     let a = wide32 (f .a) in
     let b = wide32 (f .b) in
-    let back = got32 (c .low32 .result) (c .low32 .ok) in
-    let e : c .low32 .result ≡ wrap32 (c .before .args .a -ℤ c .before .args .b) = cc (read (fit-sub _ _ (f .a) (f .b))) in
-    back ∙ e
+    got32 (c .low32 .result) (c .low32 .ok) ∙ rw (a .0, b .0, a .1, b .1, read (fit-sub _ _ (f .a) (f .b))) at (c .low32 .ensures)
 
 pub sub32-spec : {M : Type 1} → statement M
 sub32-spec = tie.close (tie.spec cast-low32 cast-low32-2 sub-low32 low32-requires returns)

@@ -10,9 +10,9 @@ use Rattle.fixed.proofs.Fit.{got32}
 use Rattle.silk.specs.State.{zeros}
 use Rattle.among.specs.Among.{keepsFirst}
 use Rattle.path.specs.Data.{Paths}
-use Rattle.frame.specs.Call.{Call, callOf, countOf}
+use Rattle.calls.specs.Call.{Call, callOf, countOf}
 use Rattle.frame.specs.Frame.{Framed, Done, start, startPaths, subframeTurn, run, ended, frame}
-use Rattle.frame.proofs.Sound.{counts}
+use Rattle.calls.proofs.Sound.{counts}
 use Rattle.nsq.proofs.Ready.{ready, state}
 use Rattle.nsq.proofs.accepted.coded.Statement.{statement}
 use Rattle.nsq.proofs.accepted.coded.Tie as tie

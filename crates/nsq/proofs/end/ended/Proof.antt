@@ -11,7 +11,7 @@ use mir.Syntax.{w32}
 use Rattle.fixed.proofs.Fit.{read, back}
 use Rattle.path.specs.Data.{noPath, running}
 use Rattle.path.proofs.Told.{path}
-use Rattle.frame.specs.Flush.{Outs}
+use Rattle.edges.specs.Flush.{Outs}
 use Rattle.frame.specs.Frame.{framedOf, flushedRun, Done, handedOut, endedWith, endedBy}
 use Rattle.nsq.proofs.end.ended.Statement.{statement}
 use Rattle.nsq.proofs.end.ended.Tie as tie

@@ -2,7 +2,7 @@
 use native.Mathlib.Omega.{arith}
 use mathlib.Core.Path.{refl}
 use borrow.Author.Needs.{needs}
-use Rattle.frame.proofs.Sound.{subframes-small}
+use Rattle.calls.proofs.Sound.{subframes-small}
 use Rattle.nsq.proofs.end.times.Statement.{statement}
 use Rattle.nsq.proofs.end.times.Tie as tie
 

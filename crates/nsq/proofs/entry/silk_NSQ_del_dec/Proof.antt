@@ -9,7 +9,7 @@ use Rattle.among.specs.Among.{keepsFirst}
 use Rattle.refusals.specs.declared.answer.Answer.{Answer}
 use Rattle.refusals.specs.Code.{codeOf}
 use Rattle.refusals.proofs.Matched.{tag-code, code-refused, good-matched}
-use Rattle.frame.specs.Call.{callOf}
+use Rattle.calls.specs.Call.{callOf}
 use Rattle.frame.specs.Frame.{Done}
 use Rattle.nsq.specs.Entry.{Outcome, outcomeOf, sizesOf, answered, taken, outcomeBy, outcome}
 use Rattle.nsq.proofs.Ready.{state}

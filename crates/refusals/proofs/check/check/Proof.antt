@@ -5,7 +5,8 @@ use denote.Ref.{now}
 use lib.ListN.{length}
 use Rattle.fixed.proofs.Fit.{read}
 use Rattle.silk.proofs.Told.{settings}
-use Rattle.refusals.specs.Table.{answerOf, table, lengthsRefused, ordersRefused, pathsRefused, kindsRefused, rowsRefused, gainsRefused, lagsRefused}
+use Rattle.limits.specs.Tests.{lengthsRefused, ordersRefused, pathsRefused, kindsRefused, gainsRefused, lagsRefused}
+use Rattle.refusals.specs.Table.{answerOf, table, rowsRefused}
 use Rattle.refusals.proofs.check.check.Statement.{statement}
 use Rattle.refusals.proofs.check.check.Tie as tie
 

@@ -7,8 +7,8 @@ use borrow.Author.Needs.{needs}
 use borrow.Author.Tests.{ne-eqb, eq-eqb}
 use Rattle.fixed.proofs.Fit.{read}
 use Rattle.refusals.specs.Table.{rowsRefused}
-use Rattle.refusals.specs.Count.{natZ}
-use Rattle.refusals.proofs.Laws.{nat-small}
+use Rattle.limits.specs.Count.{natZ}
+use Rattle.limits.proofs.Laws.{nat-small}
 use Rattle.refusals.proofs.rows.rows_refused.Statement.{statement}
 use Rattle.refusals.proofs.rows.rows_refused.Tie as tie
 

@@ -1,0 +1,3 @@
+pub mod Begin
+pub mod Flush
+pub mod Tail

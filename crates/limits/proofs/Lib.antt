@@ -1,0 +1,3 @@
+-- Laws: tests and counts. Unique: each contract leaves one outcome.
+pub mod Laws
+pub mod Unique

@@ -1,0 +1,2 @@
+pub mod WarpedFilter
+pub mod WarpedPairs
