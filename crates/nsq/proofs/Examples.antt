@@ -5,7 +5,7 @@ use mathlib.Core.Path.{_≡_, refl}
 use mathlib.Core.List.{List, [], _∷_}
 use lib.ListN.{replicate}
 use lib.IntN.{ℤ, pos}
-use Rattle.silk.specs.State.{zeros, freshState}
+use Rattle.silk.specs.State.{zeros, freshLag, freshState}
 use Rattle.refusals.specs.Code.{codeOf}
 use Rattle.limits.specs.Tests.{outside, lengthAllowed, countAllowed, orderFor, oddZ, lengthsRefused, ordersRefused, pathsRefused, kindsRefused, gainRefused, someGain, gainsRefused, lagRefused, quietLagRefused, someLag, lastOf, lagsRefused}
 use Rattle.refusals.specs.Table.{eachRefused, rowsRefused, table, answerOf}
@@ -50,5 +50,5 @@ pub accepted-examples :
     ∷ numberOf 80 4 16 (pos 1) (pos 100)
     ∷ [])
     ≡ (0 ∷ 0 ∷ 0 ∷ 0 ∷ [])
-unfolding silent numberOf set freshState zeros sizesOf answered outside lengthAllowed countAllowed orderFor oddZ lengthsRefused ordersRefused pathsRefused kindsRefused eachRefused rowsRefused gainRefused someGain gainsRefused lagRefused quietLagRefused someLag lastOf lagsRefused table answerOf
+unfolding silent numberOf set freshState freshLag zeros sizesOf answered outside lengthAllowed countAllowed orderFor oddZ lengthsRefused ordersRefused pathsRefused kindsRefused eachRefused rowsRefused gainRefused someGain gainsRefused lagRefused quietLagRefused someLag lastOf lagsRefused table answerOf
 accepted-examples = refl
