@@ -2,13 +2,14 @@
 ghost use denote.Ref.{now};
 ghost use mathlib.Core.Path.{_≡_};
 ghost use Prim.Native.Nat.{_-_, _*_, _<_, _≤_};
-ghost use lib.ListN.{length};
+ghost use lib.ListN.{length, replicate};
 ghost use lib.IntN.{pos};
 ghost use lib.Signed.{_≤ℤ_};
 ghost use Rattle.among.specs.Among.{keepsFirst};
-ghost use Rattle.path.specs.Data.{word, running};
+ghost use Rattle.path.specs.Data.{word, paths, running};
 ghost use Rattle.refusals.specs.Good.{Good};
 ghost use Rattle.silk.specs.State.{zeros};
+ghost use Rattle.edges.specs.Begin.{zeroPath, begun};
 ghost use Rattle.calls.specs.Call.{callOf, Sound, Stocked};
 ghost use Rattle.frame.specs.Frame.{framedOf, runBy, doneOf, endedBy, frame as frameZ};
 ghost use Rattle.nsq.specs.Entry.{sizesOf};
@@ -95,6 +96,43 @@ fn rest(
     end::ended(u, lpc, ring, xq, shp, pulses, words, last, lag, g)
 }
 
+// The frame before its first subframe: the paths begun, their rows written.
+fn opened(
+    state: NsqState,
+    g: Given,
+    lpc: &mut [[i32; 96]; 4],
+    ring: &mut [[[i32; 40]; 5]; 4],
+) -> Frame
+    requires { ⌜ ((0 < g .«subfr_length») × (g .«subfr_length» ≤ 80)) × ((g .seed < 4) × (g .nStates ≤ 4)) ⌝ }
+    ensures { λ r. ⌜ ((paths (r .work .ps) (now (lpc .exit)) (now (ring .exit)) ≡ begun (state .«sAR2_Q14») (state .«sLF_AR_shp_Q14») (state .«sDiff_shp_Q14») (state .«sLPC_Q14») (word (state .«sLTP_shp_Q14») (4 * g .«subfr_length» - 1)) (g .seed) (g .nStates) (paths (replicate 4 zeroPath) (now (lpc .entry)) (now (ring .entry)))) × (r .work .«smpl_buf_idx» ≡ 0)) × ((r .sLTP ≡ zeros 640) × (r .prev ≡ state .«prev_gain_Q16»)) ⌝ }
+{
+    let shp = state.sLTP_shp_Q14;
+    let ar2 = state.sAR2_Q14;
+    let words = state.sLPC_Q14;
+    let shape = last_shape(shp, g.subfr_length);
+    let ps = begin::start_paths(
+        ar2,
+        state.sLF_AR_shp_Q14,
+        state.sDiff_shp_Q14,
+        words,
+        shape,
+        g.seed,
+        g.nStates,
+        lpc,
+        ring,
+    );
+    let work = Work {
+        ps: ps,
+        smpl_buf_idx: 0,
+    };
+    let sltp = begin::zero_sltp();
+    Frame {
+        work: work,
+        sLTP: sltp,
+        prev: state.prev_gain_Q16,
+    }
+}
+
 // The frame: the paths' start, all subframes, the end.
 pub fn coded(
     s: Settings,
@@ -114,34 +152,12 @@ pub fn coded(
     ensures { λ r. ⌜ doneOf (r .seed) (r .state) (now (pulses .exit)) ≡ frameZ keepsFirst (callOf s state (now (pred .entry)) (now (long .entry)) (now (ar .entry)) (now (harm .entry)) (now (tilt .entry)) (now (lf .entry)) (now (gains .entry)) (now (lags .entry))) (now (x .entry)) (now (pulses .entry)) ⌝ }
 {
     let g = call::given_of(s, state.lagPrev, lags);
-    let xq = state.xq;
-    let shp = state.sLTP_shp_Q14;
-    let ar2 = state.sAR2_Q14;
-    let words = state.sLPC_Q14;
-    let shape = last_shape(shp, g.subfr_length);
     let mut lpc = begin::zero_lpcs();
     let mut ring = begin::zero_rings();
-    let ps = begin::start_paths(
-        ar2,
-        state.sLF_AR_shp_Q14,
-        state.sDiff_shp_Q14,
-        words,
-        shape,
-        g.seed,
-        g.nStates,
-        &mut lpc,
-        &mut ring,
-    );
-    let work = Work {
-        ps: ps,
-        smpl_buf_idx: 0,
-    };
-    let sltp = begin::zero_sltp();
-    let t = Frame {
-        work: work,
-        sLTP: sltp,
-        prev: state.prev_gain_Q16,
-    };
+    let t = opened(state, g, &mut lpc, &mut ring);
+    let xq = state.xq;
+    let shp = state.sLTP_shp_Q14;
+    let words = state.sLPC_Q14;
     rest(
         t,
         lpc,

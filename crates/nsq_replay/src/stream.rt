@@ -162,10 +162,12 @@ fn called(
     )
 }
 
-// A call with its ten rows, answered and printed. What is handed back is the state after it.
-fn answered(
+// The call, its rows lent from what was read.
+fn asked(
     s: Settings,
-    from: Held,
+    state: NsqState,
+    out: &mut [i8],
+    n: usize,
     x: Row16,
     pred: Row16,
     long: Row16,
@@ -175,10 +177,7 @@ fn answered(
     lf: Row32,
     gains: Row32,
     lags: Row32,
-) -> Held {
-    let n = frame_length(s);
-    let mut space = [0i8; 320];
-    let state = from.state;
+) -> Answered {
     let x_words = rows::halves_of(x);
     let pred_words = rows::halves_of(pred);
     let long_words = rows::halves_of(long);
@@ -188,10 +187,10 @@ fn answered(
     let lf_words = rows::words_of(lf);
     let gains_words = rows::words_of(gains);
     let lags_words = rows::words_of(lags);
-    let r = called(
+    called(
         s,
         state,
-        &mut space,
+        out,
         n,
         &x_words,
         x.count,
@@ -211,6 +210,40 @@ fn answered(
         gains.count,
         &lags_words,
         lags.count,
+    )
+}
+
+// A call with its ten rows, answered and printed. What is handed back is the state after it.
+fn answered(
+    s: Settings,
+    from: Held,
+    x: Row16,
+    pred: Row16,
+    long: Row16,
+    ar: Row16,
+    harm: Row32,
+    tilt: Row32,
+    lf: Row32,
+    gains: Row32,
+    lags: Row32,
+) -> Held {
+    let n = frame_length(s);
+    let mut space = [0i8; 320];
+    let state = from.state;
+    let r = asked(
+        s,
+        state,
+        &mut space,
+        n,
+        x,
+        pred,
+        long,
+        ar,
+        harm,
+        tilt,
+        lf,
+        gains,
+        lags,
     );
     let next = r.state;
     let answer = r.answer;

@@ -6,7 +6,6 @@ use native.Mathlib.Omega.{arith}
 use borrow.Author.Needs.{needs}
 use denote.Ref.{now}
 use Rattle.fixed.specs.Iter.{iter}
-use Rattle.fixed.proofs.Fit.{got32}
 use Rattle.silk.specs.State.{zeros}
 use Rattle.among.specs.Among.{keepsFirst}
 use Rattle.path.specs.Data.{Paths}
@@ -35,38 +34,28 @@ startWith c out p =
 given-of-requires : tie.Need-given-of-requires
 given-of-requires c κs = search needs
 
-last-shape-requires : tie.Need-last-shape-requires
-last-shape-requires c κs =
-    let gv = c .before .before .before .before in
-    let st = gv .before .before in
-    let lag = state (st .args .state) (gv .before .struct-told .given) .lag in
-    let r = ready _ _ _ (st .pre) .sound in
-    rw (rw lag at (gv .given-of .ensures)) (omega (arith, r .long), r .short)
-
 zero-lpcs-requires : tie.Need-zero-lpcs-requires
 zero-lpcs-requires c κs = search needs
 
 zero-rings-requires : tie.Need-zero-rings-requires
 zero-rings-requires c κs = search needs
 
-start-paths-requires : tie.Need-start-paths-requires
-start-paths-requires c κs =
-    let gv = c .before .before .before .before .before .before .before .before .before .before .before in
+opened-requires : tie.Need-opened-requires
+opened-requires c κs =
+    let gv = c .before .before .before .before in
     let st = gv .before .before in
     let lag = state (st .args .state) (gv .before .struct-told .given) .lag in
     let r = ready _ _ _ (st .pre) .sound in
-    rw (rw lag at (gv .given-of .ensures)) (omega (arith, r .seed3), r .paths4)
-
-zero-sltp-requires : tie.Need-zero-sltp-requires
-zero-sltp-requires c κs = search needs
+    rw (rw lag at (gv .given-of .ensures)) ((omega (arith, r .long), r .short), (omega (arith, r .seed3), r .paths4))
 
 rest-requires : tie.Need-rest-requires
 rest-requires c κs =
-    let gv = c .before .before .before .before .before .before .before .before .before .before .before .before .before .before .before in
+    let op = c .before .before .before .before in
+    let gv = op .before .before .before .before .before in
     let st = gv .before .before in
     let s = state (st .args .state) (gv .before .struct-told .given) in
     let r = ready _ _ _ (st .pre) in
-    rw (rw (s .lag) at (gv .given-of .ensures), s .gain) (((r .sound, r .stocked), r .pulses), (st .pre .gain .prev, omega arith))
+    rw (rw (s .lag) at (gv .given-of .ensures), op .opened .ensures .1 .1, op .opened .ensures .0 .1) (((r .sound, r .stocked), r .pulses), (st .pre .gain .prev, omega arith))
 
 same-length : tie.Need-same-length
 same-length c = search needs
@@ -75,19 +64,17 @@ returns : tie.Need-returns
 unfolding frame run start startPaths
 returns c =
     let rs = c .before in
-    let slt = rs .before .before .before in
-    let sp = slt .before in
-    let rings = sp .before .before .before .before .before in
+    let op = rs .before .before .before .before .before in
+    let rings = op .before .before .before in
     let lpcs = rings .before in
-    let shape = lpcs .before in
-    let gv = shape .before .before .before .before .before in
+    let gv = lpcs .before in
     let st = gv .before .before in
     let a = st .args in
     let s = state (a .state) (gv .before .struct-told .given) in
     let e = rw (s .lag) at (gv .given-of .ensures) in
-    let word = got32 (shape .last-shape .result) (shape .last-shape .ok) ∙ shape .last-shape .ensures in
-    let began = rw (s .lf, s .diff, rings .zero-rings .ensures, lpcs .zero-lpcs .ensures, word, e, counts (a .s) (a .state .lagPrev) (now (a .lags)) .seed) at (sp .start-paths .ensures) in
-    let all = rw (e, slt .zero-sltp .ensures, s .gain) at (rs .rest .ensures) in
+    let o = op .opened .ensures in
+    let began = rw (rings .zero-rings .ensures, lpcs .zero-lpcs .ensures, e, counts (a .s) (a .state .lagPrev) (now (a .lags)) .seed) at (o .0 .0) in
+    let all = rw (e, o .0 .1, o .1 .0, o .1 .1) at (rs .rest .ensures) in
     let it = callOf (a .s) (a .state) (now (a .pred)) (now (a .long)) (now (a .ar)) (now (a .harm)) (now (a .tilt)) (now (a .lf)) (now (a .gains)) (now (a .lags)) in
     let from : Paths → Framed = λ p. startWith it (now (a .pulses)) p in
     let ends : Framed → Done = λ t. ended it (iter (subframeTurn keepsFirst it (now (a .x))) (countOf it) t) in
@@ -98,11 +85,9 @@ coded-spec =
     tie.close
     (tie.spec
     given-of-requires
-    last-shape-requires
     zero-lpcs-requires
     zero-rings-requires
-    start-paths-requires
-    zero-sltp-requires
+    opened-requires
     rest-requires
     same-length
     returns)
