@@ -1,0 +1,6 @@
+-- Copied: a row copied. Laid: a state's words in a row. Refused: the answer where a state's row is another.
+-- Unique: one outcome.
+pub mod Copied
+pub mod Laid
+pub mod Refused
+pub mod Unique
