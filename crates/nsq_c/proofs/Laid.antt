@@ -24,7 +24,7 @@ put-behind p q ys n k e =
 left : (k n : ℕ) (q : List ℤ) → length q ≡ k + n → length (drop k q) ≡ n
 left k n q e = length-drop k q ∙ omega arith
 
-joined : (p q : List ℤ) (m n : ℕ) → length p ≡ m → length q ≡ n → length (p ++ q) ≡ m + n
+pub joined : (p q : List ℤ) (m n : ℕ) → length p ≡ m → length q ≡ n → length (p ++ q) ≡ m + n
 joined p q m n e f = length-append p q ∙ omega arith
 
 -- 640, 96, 24 and 7 words fill 767
