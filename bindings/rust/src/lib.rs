@@ -1,0 +1,164 @@
+//! A safe wrapper of the proved SILK noise shaping quantiser with delayed decision (`include/nsq.h`).
+//!
+//! A [`State`] holds what one frame leaves for the next; [`State::code`] codes a frame by [`Settings`] and [`Rows`] and writes its
+//! pulses. The lengths of the rows are tested here, before the call, and again by the library: a wrong one is [`Refusal::Row`]. A refused
+//! call leaves the state and the pulses as they were.
+#![deny(missing_docs)]
+
+mod ffi;
+
+/// The lengths of a state's two rows.
+pub const SAMPLES: usize = 640;
+/// See [`SAMPLES`].
+pub const WORDS: usize = 767;
+
+/// Why a call was refused, by document 01's numbers. The lowest that applies is given.
+#[derive(Clone, Copy, Debug, PartialEq, Eq)]
+#[repr(u32)]
+pub enum Refusal {
+    /// L is not 40, 60 or 80, or n is not 2 or 4.
+    Length = 1,
+    /// The prediction order does not go with L, or the shaping order is not even, 2 to 24.
+    Order = 2,
+    /// The path count is not 1 to 4.
+    Paths = 3,
+    /// Signal type, offset type, interpolation or seed is out of range.
+    Kind = 4,
+    /// A row has another length.
+    Row = 5,
+    /// A gain, or the state's previous gain, is below 1.
+    Gain = 6,
+    /// A lag is not allowed.
+    Lag = 7,
+}
+
+/// The settings of a call; L is `subfr_length`, n is `nb_subfr`, a frame has n times L samples.
+#[derive(Clone, Copy, Debug, PartialEq, Eq)]
+pub struct Settings {
+    /// L: 40, 60 or 80.
+    pub subfr_length: i32,
+    /// n: 2 or 4.
+    pub nb_subfr: i32,
+    /// 10 for L 40 and 60, 16 for L 80.
+    pub predict_lpc_order: i32,
+    /// Even, 2 to 24.
+    pub shaping_lpc_order: i32,
+    /// How many paths are followed, 1 to 4.
+    pub n_states_delayed_decision: i32,
+    /// Any number; its low 16 bits count.
+    pub warping_q16: i32,
+    /// 0 to 2; 2 is voiced.
+    pub signal_type: i32,
+    /// 0 or 1.
+    pub quant_offset_type: i32,
+    /// 0 to 4.
+    pub nlsf_interp_coef_q2: i32,
+    /// 0 to 3: the seed of the frame.
+    pub seed: i32,
+    /// Any number.
+    pub lambda_q10: i32,
+    /// Any number; its low 16 bits count.
+    pub ltp_scale_q14: i32,
+}
+
+impl Settings {
+    /// N, the samples and pulses of a frame, where n and L are allowed.
+    pub fn frame_length(&self) -> Option<usize> {
+        let good = [40, 60, 80].contains(&self.subfr_length) && [2, 4].contains(&self.nb_subfr);
+        good.then(|| (self.subfr_length * self.nb_subfr) as usize)
+    }
+
+    fn row(&self) -> [i32; 12] {
+        [
+            self.subfr_length, self.nb_subfr, self.predict_lpc_order, self.shaping_lpc_order, self.n_states_delayed_decision,
+            self.warping_q16, self.signal_type, self.quant_offset_type, self.nlsf_interp_coef_q2, self.seed, self.lambda_q10,
+            self.ltp_scale_q14,
+        ]
+    }
+}
+
+/// The rows of a call. N is the frame, n the subframe count.
+#[derive(Clone, Copy, Debug)]
+pub struct Rows<'a> {
+    /// N samples of input.
+    pub x: &'a [i16],
+    /// PredCoef_Q12, two rows of 16.
+    pub pred_coef_q12: &'a [i16],
+    /// LTPCoef_Q14, 5 for each subframe.
+    pub ltp_coef_q14: &'a [i16],
+    /// AR_Q13, 24 for each subframe.
+    pub ar_q13: &'a [i16],
+    /// HarmShapeGain_Q14, one for each subframe.
+    pub harm_shape_gain_q14: &'a [i32],
+    /// Tilt_Q14, one for each subframe.
+    pub tilt_q14: &'a [i32],
+    /// LF_shp_Q14, one for each subframe.
+    pub lf_shp_q14: &'a [i32],
+    /// Gains_Q16, one for each subframe, each 1 or more.
+    pub gains_q16: &'a [i32],
+    /// pitchL, one for each subframe.
+    pub pitch_l: &'a [i32],
+}
+
+impl Rows<'_> {
+    fn fit(&self, frame: usize, n: usize) -> bool {
+        self.x.len() == frame
+            && self.pred_coef_q12.len() == 32
+            && self.ltp_coef_q14.len() == 5 * n
+            && self.ar_q13.len() == 24 * n
+            && [self.harm_shape_gain_q14, self.tilt_q14, self.lf_shp_q14, self.gains_q16, self.pitch_l].iter().all(|r| r.len() == n)
+    }
+}
+
+/// What one frame leaves for the next: 640 samples and 767 words, at the places that `include/nsq.h` names.
+#[derive(Clone, Debug, PartialEq, Eq)]
+pub struct State {
+    samples: [i16; SAMPLES],
+    words: [i32; WORDS],
+}
+
+impl State {
+    /// The state before the first frame.
+    pub fn fresh() -> State {
+        let mut s = State { samples: [0; SAMPLES], words: [0; WORDS] };
+        let answer = ffi::fresh(&mut s.samples, &mut s.words);
+        debug_assert_eq!(answer, 0);
+        s
+    }
+
+    /// The state that two rows hold.
+    pub fn from_rows(samples: [i16; SAMPLES], words: [i32; WORDS]) -> State {
+        State { samples, words }
+    }
+
+    /// The history of decoded samples.
+    pub fn samples(&self) -> &[i16; SAMPLES] {
+        &self.samples
+    }
+
+    /// All other words.
+    pub fn words(&self) -> &[i32; WORDS] {
+        &self.words
+    }
+
+    /// Codes a frame: writes N pulses, steps the state, and hands back the seed to code. Refused, nothing is touched.
+    pub fn code(&mut self, settings: &Settings, rows: &Rows, pulses: &mut [i8]) -> Result<i32, Refusal> {
+        let mut row = settings.row();
+        let fit = settings.frame_length().is_some_and(|n| rows.fit(n, settings.nb_subfr as usize) && pulses.len() == n);
+        let answer = if fit {
+            ffi::del_dec(&mut row, &mut self.samples, &mut self.words, rows, pulses)
+        } else {
+            ffi::del_dec(&mut row, &mut [], &mut [], rows, pulses) // no state is lent: the settings' refusal, else 5
+        };
+        match answer {
+            0 => Ok(row[9]),
+            1 => Err(Refusal::Length),
+            2 => Err(Refusal::Order),
+            3 => Err(Refusal::Paths),
+            4 => Err(Refusal::Kind),
+            6 => Err(Refusal::Gain),
+            7 => Err(Refusal::Lag),
+            _ => Err(Refusal::Row),
+        }
+    }
+}

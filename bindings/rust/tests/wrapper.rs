@@ -1,0 +1,136 @@
+//! The wrapper: every refusal, wrong lengths of every row, and what a call does to state and pulses.
+use nsq::{Refusal, Rows, Settings, State, SAMPLES, WORDS};
+
+fn settings(l: i32, n: i32) -> Settings {
+    Settings {
+        subfr_length: l, nb_subfr: n, predict_lpc_order: if l == 80 { 16 } else { 10 }, shaping_lpc_order: 16,
+        n_states_delayed_decision: 4, warping_q16: 0, signal_type: 0, quant_offset_type: 0, nlsf_interp_coef_q2: 4, seed: 1,
+        lambda_q10: 1024, ltp_scale_q14: 0,
+    }
+}
+
+/// rows of their own, so that each can be spoilt
+struct Own {
+    shorts: [Vec<i16>; 4],
+    longs: [Vec<i32>; 5],
+}
+
+impl Own {
+    fn new(s: &Settings) -> Own {
+        let (l, n) = (s.subfr_length as usize, s.nb_subfr as usize);
+        let x = (0..n * l).map(|i| ((i * 7919) % 2001) as i16 - 1000).collect();
+        Own { shorts: [x, vec![100; 32], vec![0; 5 * n], vec![50; 24 * n]], longs: [vec![0; n], vec![-1000; n], vec![0; n], vec![1 << 22; n], vec![0; n]] }
+    }
+
+    fn rows(&self) -> Rows<'_> {
+        let ([x, pred, ltp, ar], [harm, tilt, lf, gains, lags]) = (&self.shorts, &self.longs);
+        Rows {
+            x, pred_coef_q12: pred, ltp_coef_q14: ltp, ar_q13: ar, harm_shape_gain_q14: harm, tilt_q14: tilt, lf_shp_q14: lf,
+            gains_q16: gains, pitch_l: lags,
+        }
+    }
+}
+
+/// a call that must be refused so, and touch nothing
+fn refused(why: Refusal, state: &State, s: &Settings, own: &Own, pulses: usize) {
+    let (mut after, mut row) = (state.clone(), vec![77i8; pulses]);
+    assert_eq!(after.code(s, &own.rows(), &mut row), Err(why));
+    assert_eq!(&after, state);
+    assert!(row.iter().all(|&p| p == 77));
+}
+
+#[test]
+fn fresh_is_zero_but_the_gain() {
+    let s = State::fresh();
+    assert!(s.samples().iter().all(|&w| w == 0));
+    assert!(s.words().iter().enumerate().all(|(k, &w)| w == if k == 765 { 65536 } else { 0 }));
+}
+
+#[test]
+fn every_frame_size_is_coded() {
+    for (l, n) in [(40, 2), (40, 4), (60, 2), (60, 4), (80, 2), (80, 4)] {
+        let s = settings(l, n);
+        let frame = s.frame_length().unwrap();
+        let (own, mut state, mut pulses) = (Own::new(&s), State::fresh(), vec![77i8; frame]);
+        let seed = state.code(&s, &own.rows(), &mut pulses).unwrap();
+        assert!((0..4).contains(&seed));
+        assert!(pulses.iter().all(|&p| (-32..=31).contains(&p)) && pulses.iter().any(|&p| p != 0));
+        assert_ne!(state, State::fresh());
+        let again = State::from_rows(*state.samples(), *state.words());
+        assert_eq!(again, state);
+    }
+}
+
+#[test]
+fn silence_stays_silent() {
+    let s = Settings { n_states_delayed_decision: 1, shaping_lpc_order: 2, lambda_q10: 0, seed: 0, ..settings(40, 2) };
+    let mut own = Own::new(&s);
+    own.shorts = [vec![0; 80], vec![0; 32], vec![0; 10], vec![0; 48]];
+    own.longs = [vec![0; 2], vec![0; 2], vec![0; 2], vec![65536; 2], vec![0; 2]];
+    let (mut state, mut pulses) = (State::fresh(), [9i8; 80]);
+    assert_eq!(state.code(&s, &own.rows(), &mut pulses), Ok(0));
+    assert_eq!(pulses, [0; 80]);
+}
+
+#[test]
+fn settings_are_refused() {
+    let (good, fresh) = (settings(40, 2), State::fresh());
+    let own = Own::new(&good);
+    let try_it = |why, s: Settings| refused(why, &fresh, &s, &own, 80);
+    try_it(Refusal::Length, Settings { subfr_length: 41, ..good });
+    try_it(Refusal::Length, Settings { nb_subfr: 3, predict_lpc_order: 11, ..good });
+    try_it(Refusal::Length, Settings { subfr_length: i32::MIN, nb_subfr: i32::MAX, ..good });
+    try_it(Refusal::Order, Settings { predict_lpc_order: 16, n_states_delayed_decision: 0, ..good });
+    try_it(Refusal::Order, Settings { shaping_lpc_order: 3, ..good });
+    try_it(Refusal::Paths, Settings { n_states_delayed_decision: 0, ..good });
+    try_it(Refusal::Kind, Settings { signal_type: 3, ..good });
+    try_it(Refusal::Kind, Settings { seed: 4, ..good });
+}
+
+#[test]
+fn every_row_of_another_length_is_refused() {
+    let (s, fresh) = (settings(40, 2), State::fresh());
+    for k in 0..4 {
+        for len in [0, Own::new(&s).shorts[k].len() - 1, Own::new(&s).shorts[k].len() + 1, 1000] {
+            let mut own = Own::new(&s);
+            own.shorts[k].resize(len, 1);
+            refused(Refusal::Row, &fresh, &s, &own, 80);
+        }
+    }
+    for k in 0..5 {
+        for len in [0, 1, 3, 4, 100] {
+            let mut own = Own::new(&s);
+            own.longs[k].resize(len, 1);
+            refused(Refusal::Row, &fresh, &s, &own, 80);
+        }
+    }
+    for len in [0, 79, 81, 320] {
+        refused(Refusal::Row, &fresh, &s, &Own::new(&s), len);
+    }
+    // the settings come first
+    let mut own = Own::new(&s);
+    own.shorts[0].clear();
+    refused(Refusal::Paths, &fresh, &Settings { n_states_delayed_decision: 5, ..s }, &own, 0);
+}
+
+#[test]
+fn gains_and_lags_are_refused() {
+    let (s, fresh) = (settings(40, 2), State::fresh());
+    let mut own = Own::new(&s);
+    own.longs[3][1] = 0;
+    refused(Refusal::Gain, &fresh, &s, &own, 80);
+    let mut words = *fresh.words();
+    words[765] = 0;
+    refused(Refusal::Gain, &State::from_rows([0; SAMPLES], words), &s, &Own::new(&s), 80);
+    let voiced = Settings { signal_type: 2, ..s };
+    for (lag, good) in [(15, false), (16, true), (144, true), (145, false)] {
+        let mut own = Own::new(&s);
+        own.longs[4] = vec![lag; 2];
+        if good {
+            assert!(State::fresh().code(&voiced, &own.rows(), &mut [0; 80]).is_ok());
+        } else {
+            refused(Refusal::Lag, &fresh, &voiced, &own, 80);
+        }
+    }
+    assert_eq!((SAMPLES, WORDS), (640, 767));
+}

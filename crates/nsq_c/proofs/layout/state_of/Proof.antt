@@ -1,0 +1,134 @@
+-- `nsq_c::layout::state_of` meets its contract. Assumes nothing.
+use mathlib.Core.Path.{_≡_}
+use Prim.Native.Nat.{ℕ, _<_, _^_}
+use borrow.Author.Needs.{needs}
+use denote.Ref.{now}
+use lib.Signed.{mag}
+use mir.Syntax.{w32}
+use mir.Val.{toZ, ofZ}
+use Rattle.fixed.proofs.Fit.{back}
+use Rattle.path.specs.Data.{word}
+use Rattle.nsq_c.specs.Layout.{stateOf}
+use Rattle.nsq_c.proofs.layout.state_of.Statement.{statement}
+use Rattle.nsq_c.proofs.layout.state_of.Tie as tie
+
+fresh-requires : tie.Need-fresh-requires
+fresh-requires c κs = search needs
+
+history-requires : tie.Need-history-requires
+history-requires c κs = search needs
+
+sub-words640 : tie.Need-sub-words640
+sub-words640 c = search needs
+
+part-words640-start : tie.Need-part-words640-start
+part-words640-start c = search needs
+
+part-words640-end : tie.Need-part-words640-end
+part-words640-end c = search needs
+
+words640-requires : tie.Need-words640-requires
+words640-requires c κs = search needs
+
+sub-words96 : tie.Need-sub-words96
+sub-words96 c = search needs
+
+part-words96-start : tie.Need-part-words96-start
+part-words96-start c = search needs
+
+part-words96-end : tie.Need-part-words96-end
+part-words96-end c = search needs
+
+words96-requires : tie.Need-words96-requires
+words96-requires c κs = search needs
+
+sub-words24 : tie.Need-sub-words24
+sub-words24 c = search needs
+
+part-words24-start : tie.Need-part-words24-start
+part-words24-start c = search needs
+
+part-words24-end : tie.Need-part-words24-end
+part-words24-end c = search needs
+
+words24-requires : tie.Need-words24-requires
+words24-requires c κs = search needs
+
+shared-slice-copy-out-t23 : tie.Need-shared-slice-copy-out-t23
+shared-slice-copy-out-t23 c = search needs
+
+shared-slice-copy-out-t25 : tie.Need-shared-slice-copy-out-t25
+shared-slice-copy-out-t25 c = search needs
+
+shared-slice-copy-out-t27 : tie.Need-shared-slice-copy-out-t27
+shared-slice-copy-out-t27 c = search needs
+
+shared-slice-copy-out-t29 : tie.Need-shared-slice-copy-out-t29
+shared-slice-copy-out-t29 c = search needs
+
+shared-slice-copy-out-t31 : tie.Need-shared-slice-copy-out-t31
+shared-slice-copy-out-t31 c = search needs
+
+shared-slice-copy-out-t33 : tie.Need-shared-slice-copy-out-t33
+shared-slice-copy-out-t33 c = search needs
+
+shared-slice-copy-out-t35 : tie.Need-shared-slice-copy-out-t35
+shared-slice-copy-out-t35 c = search needs
+
+returns : tie.Need-returns
+unfolding stateOf
+returns c =
+    let p6 = c in
+    let p5 = p6 .before in
+    let p4 = p5 .before in
+    let p3 = p4 .before in
+    let p2 = p3 .before in
+    let p1 = p2 .before in
+    let p0 = p1 .before in
+    let w24 = p0 .before in
+    let w96 = w24 .before .before in
+    let w640 = w96 .before .before in
+    let hist = w640 .before .before in
+    let st = hist .before .before .before .before .before .before in
+    let words = now (st .args .words) in
+    let given : (k : ℕ) → mag (word words k) < 2 ^ 31 → toZ w32 (ofZ w32 (word words k)) ≡ word words k = λ k h. back w32 (word words k) h in
+    rw (
+      hist .history .ensures,
+      w640 .words640 .ensures,
+      w96 .words96 .ensures,
+      w24 .words24 .ensures,
+      given 760 (p0 .t23 .given),
+      given 761 (p1 .t25 .given),
+      given 762 (p2 .t27 .given),
+      given 763 (p3 .t29 .given),
+      given 764 (p4 .t31 .given),
+      given 765 (p5 .t33 .given),
+      given 766 (p6 .t35 .given),
+    )
+
+pub state-of-spec : {M : Type 1} → statement M
+state-of-spec =
+    tie.close
+    (tie.spec
+    fresh-requires
+    history-requires
+    sub-words640
+    part-words640-start
+    part-words640-end
+    words640-requires
+    sub-words96
+    part-words96-start
+    part-words96-end
+    words96-requires
+    sub-words24
+    part-words24-start
+    part-words24-end
+    words24-requires
+    shared-slice-copy-out-t23
+    shared-slice-copy-out-t25
+    shared-slice-copy-out-t27
+    shared-slice-copy-out-t29
+    shared-slice-copy-out-t31
+    shared-slice-copy-out-t33
+    shared-slice-copy-out-t35
+    returns)

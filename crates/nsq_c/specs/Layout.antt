@@ -1,0 +1,59 @@
+-- Settings and state as plain rows: which word stands where. Settings are 12 words in document 01's order. A state is a row of 640 samples and
+-- a row of 767 words: 640 shaping words, 96 LPC words, 24 shaping filter words, and seven that stand alone. Assumes nothing.
+use mathlib.Core.List.{List, [], _∷_, _++_}
+use lib.ListN.{take, drop}
+use lib.IntN.{ℤ}
+use Rattle.silk.specs.declared.structs.Settings.{Settings}
+use Rattle.silk.specs.declared.structs.NsqState.{NsqState}
+use Rattle.path.specs.Data.{word}
+
+-- the settings in a row of 12
+unfoldable pub settingsOf : List ℤ → Settings
+settingsOf row =
+    record {
+      «subfr_length» = word row 0;
+      «nb_subfr» = word row 1;
+      predictLPCOrder = word row 2;
+      shapingLPCOrder = word row 3;
+      nStatesDelayedDecision = word row 4;
+      «warping_Q16» = word row 5;
+      signalType = word row 6;
+      quantOffsetType = word row 7;
+      «NLSFInterpCoef_Q2» = word row 8;
+      Seed = word row 9;
+      «Lambda_Q10» = word row 10;
+      «LTP_scale_Q14» = word row 11;
+    }
+
+-- the state in a row of 640 samples and one of 767 words
+unfoldable pub stateOf : List ℤ → List ℤ → NsqState
+stateOf samples words =
+    record {
+      xq = samples;
+      «sLTP_shp_Q14» = take 640 words;
+      «sLPC_Q14» = take 96 (drop 640 words);
+      «sAR2_Q14» = take 24 (drop 736 words);
+      «sLF_AR_shp_Q14» = word words 760;
+      «sDiff_shp_Q14» = word words 761;
+      lagPrev = word words 762;
+      «sLTP_buf_idx» = word words 763;
+      «sLTP_shp_buf_idx» = word words 764;
+      «prev_gain_Q16» = word words 765;
+      «rewhite_flag» = word words 766;
+    }
+
+-- the seven words of a state that stand alone
+unfoldable pub scalarsOf : NsqState → List ℤ
+scalarsOf z =
+    z .«sLF_AR_shp_Q14»
+    ∷ z .«sDiff_shp_Q14»
+    ∷ z .lagPrev
+    ∷ z .«sLTP_buf_idx»
+    ∷ z .«sLTP_shp_buf_idx»
+    ∷ z .«prev_gain_Q16»
+    ∷ z .«rewhite_flag»
+    ∷ []
+
+-- all words of a state in a row: `stateOf` reads them back
+unfoldable pub wordsOf : NsqState → List ℤ
+wordsOf z = ((z .«sLTP_shp_Q14» ++ z .«sLPC_Q14») ++ z .«sAR2_Q14») ++ scalarsOf z

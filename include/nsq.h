@@ -1,0 +1,96 @@
+/* The SILK noise shaping quantiser with delayed decision, proved. Link target/staticlib/libnsq_c.a, which tools/build-lib
+ * writes, into an x86-64 Linux program (gcc program.c -Iinclude target/staticlib/libnsq_c.a).
+ *
+ * Both functions may be called with anything: they hold no state of their own, keep no pointer, allocate nothing and ask nothing
+ * of their numbers. Each row is a pointer and its length IN ELEMENTS. What the caller owes is what C cannot check:
+ *   - behind each pointer there are as many elements as its length says (length 0: any pointer, NULL too, nothing is read);
+ *   - rows that are written (settings, samples, words, pulses) overlap no other row of the same call.
+ * A call may run at the same time as others on other rows. */
+#ifndef NSQ_H
+#define NSQ_H
+
+#include <stddef.h>
+#include <stdint.h>
+
+#ifdef __cplusplus
+extern "C" {
+#endif
+
+/* What comes back. The lowest number that applies is given. A refusal (not 0) touches no row. */
+enum {
+    NSQ_ACCEPTED = 0,
+    NSQ_BAD_LENGTH = 1, /* L not 40, 60 or 80, or n not 2 or 4 */
+    NSQ_BAD_ORDER = 2,  /* prediction order not 10 (L 40, 60) or 16 (L 80), or shaping order not even, 2 to 24 */
+    NSQ_BAD_PATHS = 3,  /* path count not 1 to 4 */
+    NSQ_BAD_KIND = 4,   /* signal type not 0 to 2, offset type not 0 or 1, interpolation not 0 to 4, or seed not 0 to 3 */
+    NSQ_BAD_ROW = 5,    /* a row has another length, those of settings and state too */
+    NSQ_BAD_GAIN = 6,   /* a gain, or the state's previous gain, below 1 */
+    NSQ_BAD_LAG = 7     /* voiced: one of the n lags is not 2L/5 to 18L/5; else: the state's lag or the last lag is neither 0 nor that */
+};
+
+/* The row of settings: 12 words. L is the subframe length, n the subframe count; N = n * L is the frame. */
+enum {
+    NSQ_SUBFR_LENGTH = 0,     /* L */
+    NSQ_NB_SUBFR = 1,         /* n */
+    NSQ_PREDICT_ORDER = 2,    /* predictLPCOrder */
+    NSQ_SHAPING_ORDER = 3,    /* shapingLPCOrder */
+    NSQ_PATHS = 4,            /* nStatesDelayedDecision */
+    NSQ_WARPING_Q16 = 5,      /* any; the low 16 bits count */
+    NSQ_SIGNAL_TYPE = 6,      /* 2 is voiced */
+    NSQ_QUANT_OFFSET_TYPE = 7,
+    NSQ_INTERP_Q2 = 8,        /* NLSFInterpCoef_Q2 */
+    NSQ_SEED = 9,             /* in: the seed of the frame; out, where accepted: the seed that the coded frame starts from */
+    NSQ_LAMBDA_Q10 = 10,      /* any */
+    NSQ_LTP_SCALE_Q14 = 11,   /* any; the low 16 bits count */
+    NSQ_SETTINGS = 12         /* the row's length */
+};
+
+/* The state is two rows: 640 samples (xq) and 767 words, which stand at these places. */
+enum {
+    NSQ_SAMPLES = 640,              /* the length of the row of samples */
+    NSQ_SLTP_SHP_Q14 = 0,           /* 640 words */
+    NSQ_SLPC_Q14 = 640,             /* 96 words */
+    NSQ_SAR2_Q14 = 736,             /* 24 words */
+    NSQ_SLF_AR_SHP_Q14 = 760,
+    NSQ_SDIFF_SHP_Q14 = 761,
+    NSQ_LAG_PREV = 762,             /* the last lag of the frame before */
+    NSQ_SLTP_BUF_IDX = 763,         /* this, the next and rewhite_flag are handed out and never read */
+    NSQ_SLTP_SHP_BUF_IDX = 764,
+    NSQ_PREV_GAIN_Q16 = 765,        /* the last gain of the frame before */
+    NSQ_REWHITE_FLAG = 766,
+    NSQ_WORDS = 767                 /* the length of the row of words */
+};
+
+/* Makes the two rows the state before the first frame: all 0, but the previous gain 65536. Returns 0; or 5, with both rows as they
+ * were, where samples_len is not 640 or words_len is not 767. */
+uint32_t nsq_fresh(int16_t *samples, size_t samples_len, int32_t *words, size_t words_len);
+
+/* Codes one frame. Returns one of the numbers above. Accepted: the N pulses are written, samples and words hold the next state, and
+ * settings[NSQ_SEED] holds the seed to code. Where a row of the state has another length, the answer is the lowest of 1 to 4 that the
+ * settings give, else 5; where the settings have another length, it is 5.
+ *
+ *   settings  12, see above; only the seed is written     samples  640, words  767: the state, read and written
+ *   x         N samples of input                          pulses   N, written; what they held does not count
+ *   pred      32: PredCoef_Q12, two rows of 16            ltp      5n: LTPCoef_Q14, 5 for each subframe
+ *   ar        24n: AR_Q13, 24 for each subframe           harm     n: HarmShapeGain_Q14
+ *   tilt      n: Tilt_Q14                                 lf       n: LF_shp_Q14
+ *   gains     n: Gains_Q16, each 1 or more                lags     n: pitchL */
+uint32_t nsq_del_dec(int32_t *settings, size_t settings_len,
+                     int16_t *samples, size_t samples_len,
+                     int32_t *words, size_t words_len,
+                     const int16_t *x, size_t x_len,
+                     int8_t *pulses, size_t pulses_len,
+                     const int16_t *pred, size_t pred_len,
+                     const int16_t *ltp, size_t ltp_len,
+                     const int16_t *ar, size_t ar_len,
+                     const int32_t *harm, size_t harm_len,
+                     const int32_t *tilt, size_t tilt_len,
+                     const int32_t *lf, size_t lf_len,
+                     const int32_t *gains, size_t gains_len,
+                     const int32_t *lags, size_t lags_len);
+
+#ifdef __cplusplus
+}
+#endif
+
+#endif
