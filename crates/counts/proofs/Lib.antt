@@ -1,3 +1,5 @@
 -- Rows: rows that agree below a place. Refusals: the number is the same.
 pub mod Rows
 pub mod Refusals
+pub mod Sample
+pub mod Subframe
