@@ -3,3 +3,4 @@ pub mod Rows
 pub mod Refusals
 pub mod Sample
 pub mod Subframe
+pub mod Flush
