@@ -4,3 +4,4 @@ pub mod Refusals
 pub mod Sample
 pub mod Subframe
 pub mod Flush
+pub mod Before
