@@ -5,3 +5,5 @@ pub mod Sample
 pub mod Subframe
 pub mod Flush
 pub mod Before
+pub mod Step
+pub mod Place

@@ -20,7 +20,7 @@ use Rattle.path.specs.declared.structs.Common.{Common}
 use Rattle.path.specs.Data.{word, Paths, Core, Running, Rows}
 use Rattle.among.specs.Among.{Rule}
 use Rattle.samples.specs.Settled.{Settled}
-use Rattle.paths.specs.Subframe.{down, predicted, harmonic, common, delayed, tookFrom, took, leaves, emit, putAt, put, turn, backs, withLpcs, moveBack, subframe}
+use Rattle.paths.specs.Subframe.{down, predicted, harmonic, common, delayed, tookFrom, took, leaves, emit, putAt, put, turn, moveBack, subframe}
 use Rattle.counts.proofs.Rows.{either-same, Below, below-at, below-less, below-grow}
 use Rattle.counts.proofs.Sample.{RowsSame, sample-same}
 
@@ -152,24 +152,57 @@ put-same f k i s {m} t u r =
     }
 
 -- ---- one sample, all samples
+pub turn-is : (rule : Rule) (f : Fix) (v : Rows) (x : List ℤ) (i : ℕ) (t : Running) → turn rule f v x i t ≡ put f i (took rule f v x i t) t
+unfolding turn
+turn-is rule f v x i t = refl
+
 turn-same : (rule : Rule) (f : Fix) (v w : Rows) → RowsSame f v w → Behind f → (x : List ℤ) (i : ℕ) {m : ℕ} (t u : Running)
     → Same m (4 * f .«subfr_length») (bound (f .first) (f .base) (f .decisionDelay) i) t u
     → Same m (4 * f .«subfr_length») (bound (f .first) (f .base) (f .decisionDelay) (suc i)) (turn rule f v x i t) (turn rule f w x i u)
-unfolding turn
 turn-same rule f v w s k x i {m} t u r =
     let e : took rule f v x i t ≡ took rule f w x i u =
         took-same rule f v w s x x i refl t u (r .core)
         (λ ltp.
           harmonic-same f (v .half .«HarmShapeFIRPacked_Q14») (w .half .«HarmShapeFIRPacked_Q14») (t .«sLTP_shp_Q14») (u .«sLTP_shp_Q14») i ltp _ (r .shp)
           (λ z. read-below (f .first) (4 * f .«subfr_length») (f .base) (f .decisionDelay) i (f .lag) (k .some) (k .lag z) (k .late)) (s .harm)) in
-    rw e (put-same f k i (took rule f w x i u) t u r)
+    rw (turn-is rule f v x i t, turn-is rule f w x i u, e) (put-same f k i (took rule f w x i u) t u r)
+
+-- after the samples only LPC words move, and each path's by its own
+pub record MovedBack (f : Fix) (t u : Running) : Type 0 where
+  pub xq : u .xq ≡ t .xq
+  pub shp : u .«sLTP_shp_Q14» ≡ t .«sLTP_shp_Q14»
+  pub out : u .pulses ≡ t .pulses
+  pub core : (z : Running) → z .core ≡ t .core → moveBack f z .core ≡ u .core
+
+pub moved-back : (f : Fix) (t : Running) → MovedBack f t (moveBack f t)
+unfolding moveBack
+moved-back f t = record { xq = refl; shp = refl; out = refl; core = λ z e. rw e refl }
+
+-- what each sample of two subframes keeps
+pub subframe-rel : (R : ℕ → Running → Running → Type 0) (S : Running → Running → Type 0) (rule : Rule) (f : Fix) (v w : Rows) (x y : List ℤ)
+    → ((i : ℕ) → i < f .«subfr_length» → (t u : Running) → R i t u → R (suc i) (turn rule f v x i t) (turn rule f w y i u))
+    → ((t u : Running) → R (f .«subfr_length») t u → S (moveBack f t) (moveBack f u))
+    → (t u : Running) → R 0 t u → S (subframe rule f v x t) (subframe rule f w y u)
+unfolding subframe
+subframe-rel R S rule f v w x y k e t u r =
+    e _ _ (iter-rel R (turn rule f v x) (turn rule f w y) (f .«subfr_length») k t u r)
+
+back-same : (f : Fix) {m h b : ℕ} (t u : Running) → Same m h b t u → Same m h b (moveBack f t) (moveBack f u)
+back-same f t u r =
+    let a = moved-back f t in
+    let b = moved-back f u in
+    record {
+      long = ap (λ (l : List ℤ). length l) (a .out) ∙ r .long;
+      core = b .core t (r .core);
+      xq = rw (a .xq, b .xq) (r .xq);
+      shp = rw (a .shp, b .shp) (r .shp);
+      out = rw (a .out, b .out) (r .out);
+    }
 
 pub subframe-same : (rule : Rule) (f : Fix) (v w : Rows) → RowsSame f v w → Behind f → (x : List ℤ) {m : ℕ} (t u : Running)
     → Same m (4 * f .«subfr_length») (bound (f .first) (f .base) (f .decisionDelay) 0) t u
     → Same m (4 * f .«subfr_length») (bound (f .first) (f .base) (f .decisionDelay) (f .«subfr_length»)) (subframe rule f v x t) (subframe rule f w x u)
-unfolding subframe moveBack
 subframe-same rule f v w s k x {m} t u r =
-    let q =
-        iter-rel (λ i. Same m (4 * f .«subfr_length») (bound (f .first) (f .base) (f .decisionDelay) i)) (turn rule f v x) (turn rule f w x) (f .«subfr_length»)
-        (λ i h. turn-same rule f v w s k x i {m = m}) t u r in
-    record { long = q .long; core = rw (q .core) refl; xq = q .xq; shp = q .shp; out = q .out }
+    subframe-rel (λ i. Same m (4 * f .«subfr_length») (bound (f .first) (f .base) (f .decisionDelay) i))
+    (Same m (4 * f .«subfr_length») (bound (f .first) (f .base) (f .decisionDelay) (f .«subfr_length»))) rule f v w x x
+    (λ i h t u. turn-same rule f v w s k x i {m = m} t u) (λ t u. back-same f t u) t u r
