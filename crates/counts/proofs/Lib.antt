@@ -7,3 +7,4 @@ pub mod Flush
 pub mod Before
 pub mod Step
 pub mod Place
+pub mod Prefix
