@@ -8,3 +8,4 @@ pub mod Before
 pub mod Step
 pub mod Place
 pub mod Prefix
+pub mod Accepted
