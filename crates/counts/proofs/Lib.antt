@@ -9,3 +9,5 @@ pub mod Step
 pub mod Place
 pub mod Prefix
 pub mod Accepted
+pub mod Frame
+pub mod PrefixFrame
