@@ -38,7 +38,7 @@ unfolding lagBy givenBy voicedBy delayBy
 early-by {s} {p} {lags} g h k b = go (sameZ (s .signalType) (pos 2)) refl
   where
     go : (v : Bool) → sameZ (s .signalType) (pos 2) ≡ v → 0 < either v (natZ (word lags k)) (natZ p)
-      → either v (voicedDelay (natZ (s .«subfr_length»)) (natZ (s .«nb_subfr»)) lags) (quietDelay (natZ (s .«subfr_length»)) (natZ p)) + 3 ≤ either v (natZ (word lags k)) (natZ p)
+        → either v (voicedDelay (natZ (s .«subfr_length»)) (natZ (s .«nb_subfr»)) lags) (quietDelay (natZ (s .«subfr_length»)) (natZ p)) + 3 ≤ either v (natZ (word lags k)) (natZ p)
     go true e q = rw e at (sound-by g h .early e k b)
     go false e q = quiet-early (natZ (s .«subfr_length»)) (natZ p) (quiet-lag (g .l) (h .prev e) q)
 

@@ -33,7 +33,7 @@ unfolding analysis
 analysis-same out input a b order e =
     ap (iter clearTurn order)
     (iter-same (filterTurn input a order) (filterTurn input b order) (length input - order) out
-      (λ k h row. rw (filtered-same input a b order (order + k) e) refl))
+    (λ k h row. rw (filtered-same input a b order (order + k) e) refl))
 
 -- ---- the rewhitening reads history below 4L and the samples that are coded
 rewhitened-same : (row s t a b : List ℤ) (order start from m h : ℕ) → Below h s t → from + m ≤ h → ((j : ℕ) → j < order → word a j ≡ word b j)
@@ -182,8 +182,8 @@ pub before-same : (again rewhite : Bool) (f : Fix) (a b : List ℤ) (gain1 inv i
     → WhiteSame m (4 * f .«subfr_length») b1 (before again rewhite f a gain1 inv prev t row) (before again rewhite f b gain1 inv′ prev u row)
 before-same again rewhite f a b gain1 inv inv′ prev {m} {b0} {b1} t u row s e i r =
     let q =
-        white-first-same rewhite f a b inv inv′ (flushedFirst again f gain1 t) (flushedFirst again f gain1 u) row e i (s .white)
-        (flushed-same again rewhite f gain1 t u s r) in
+    white-first-same rewhite f a b inv inv′ (flushedFirst again f gain1 t) (flushedFirst again f gain1 u) row e i (s .white)
+    (flushed-same again rewhite f gain1 t u s r) in
     before-rel (WhiteSame m (4 * f .«subfr_length») b1) again rewhite f a b gain1 inv inv′ prev prev t u row row
     (record {
       run =
@@ -210,5 +210,5 @@ before-past again rewhite f a gain1 inv prev prev′ {b} t u row row′ k r =
     let q = flushedFirst again f gain1 u in
     before-rel (λ (v w : Whitened). Below b (v .run .pulses) (w .run .pulses)) again rewhite f a a gain1 inv inv prev prev′ t u row row′
     (rw (regained-out f rewhite prev (whitenedFirst rewhite f a inv p row .run), white-out rewhite f a inv p row, regained-out f rewhite prev′ (whitenedFirst rewhite f a inv q row′ .run), white-out rewhite f a inv q row′)
-      (flushed-rel (λ (v w : Running). Below b (v .pulses) (w .pulses)) again f gain1 t u
-        (λ e. middle-past (f .nStates) (f .«subfr_length») (f .decisionDelay) gain1 t u (k e) r) (λ e. r)))
+    (flushed-rel (λ (v w : Running). Below b (v .pulses) (w .pulses)) again f gain1 t u
+    (λ e. middle-past (f .nStates) (f .«subfr_length») (f .decisionDelay) gain1 t u (k e) r) (λ e. r)))

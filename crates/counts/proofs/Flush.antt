@@ -59,10 +59,10 @@ outs-same h ring fit d g r {m} o u k q =
     let b : g - d ≡ g - d + 0 = omega arith in
     rw a at
     (flushed-rel (λ i. OutsSame m h (g - d + i)) h ring ring fit d g r r
-      (λ i z o u q.
-        let e : g - d + suc i ≡ suc (g - d + i) = omega arith in
-        rw e (outs-turn h ring fit ((r + d - 1 - i) % 40) (g - d + i) {m = m} o u q))
-      o u (rw b at q))
+    (λ i z o u q.
+    let e : g - d + suc i ≡ suc (g - d + i) = omega arith in
+    rw e (outs-turn h ring fit ((r + d - 1 - i) % 40) (g - d + i) {m = m} o u q))
+    o u (rw b at q))
 
 -- whatever the rings hold, no pulse below g - d is written
 pulse-turn : (h : ℕ) (ring ring′ : List (List ℤ)) (fit : ℤ → ℤ) (last last′ p : ℕ) {b : ℕ} (o u : Outs) → b ≤ p → Below b (o .pulses) (u .pulses)
@@ -77,7 +77,7 @@ unfolding flushedRun
 flush-same l d fit g w {m} t u k r =
     rw (r .core)
     (outs-same (4 * l) (getD (u .core .ps .rings) w []) fit d g (u .core .«smpl_buf_idx») (outsOf t) (outsOf u) k
-      (record { long = r .long; xq = r .xq; shp = r .shp; out = r .out }))
+    (record { long = r .long; xq = r .xq; shp = r .shp; out = r .out }))
 
 pub flush-past : (l d : ℕ) (fit : ℤ → ℤ) (g w z : ℕ) {b : ℕ} (t u : Running) → b ≤ g - d → Below b (t .pulses) (u .pulses)
     → Below b (flushedRun l d fit g w t .pulses) (flushedRun l d fit g z u .pulses)
@@ -103,7 +103,7 @@ middle-same n l d gain {m} t u k r =
     let b = middle n l d gain u in
     let w : bestOf (t .core .ps .owns) n ≡ bestOf (u .core .ps .owns) n = rw (r .core) refl in
     let q : OutsSame m (4 * l) (2 * l) (outsOf (middleBy n l d gain t)) (outsOf (middleBy n l d gain u)) =
-        rw (a .rows, b .rows, w) (flush-same l d (fitMiddle gain) (2 * l) (bestOf (u .core .ps .owns) n) t u k r) in
+    rw (a .rows, b .rows, w) (flush-same l d (fitMiddle gain) (2 * l) (bestOf (u .core .ps .owns) n) t u k r) in
     record { long = q .long; core = b .core t (r .core); xq = q .xq; shp = q .shp; out = q .out }
 
 pub middle-past : (n l d : ℕ) (gain : ℤ) {b : ℕ} (t u : Running) → b ≤ 2 * l - d → Below b (t .pulses) (u .pulses)

@@ -19,7 +19,7 @@ use Rattle.frame.specs.Frame.{Framed, start, flushedRun, step, priorBy, turnBy,
 -- subframe k
 pub turn-is : (rule : Rule) (g : Given) (x pred ltp ar tilt harm lf gains lags : List ℤ) (k : ℕ) (t : Framed)
     → turnBy rule g x pred ltp ar tilt harm lf gains lags k t
-      ≡ step rule (fixBy g lags lf gains k) (rowsBy g pred ltp ar tilt harm k) x (secondBy g k) (rewhitesBy g k) (word gains 1) (whiteBy g (word gains k) k) t
+    ≡ step rule (fixBy g lags lf gains k) (rowsBy g pred ltp ar tilt harm k) x (secondBy g k) (rewhitesBy g k) (word gains 1) (whiteBy g (word gains k) k) t
 unfolding turnBy priorBy
 turn-is rule g x pred ltp ar tilt harm lf gains lags k t = refl
 

@@ -11,3 +11,4 @@ pub mod Prefix
 pub mod Accepted
 pub mod Frame
 pub mod PrefixFrame
+pub mod Theorems

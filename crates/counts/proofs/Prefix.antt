@@ -100,5 +100,5 @@ module _ (rule : Rule) (f : Fix) (v : Rows) (ten : 10 ≤ f .predictLPCOrder) (o
   step-pre again rewhite gain1 inv two r s k =
       rw (step-is rule f v x again rewhite gain1 inv r, step-is rule f v y again rewhite gain1 inv s)
       (coded-pre (beforeIt f v again rewhite gain1 inv r) (beforeIt f v again rewhite gain1 inv s)
-        (pre-step frameOut whiteOut (beforeIt f v again rewhite gain1 inv) (beforeIt f v again rewhite gain1 inv) (omega arith) (λ z e. ap (beforeIt f v again rewhite gain1 inv) e)
-          (λ z a. before-past again rewhite f (v .a) gain1 inv (r .«prev_gain_Q16») (s .«prev_gain_Q16») (r .run) (s .run) (r .sLTP) (s .sLTP) (λ c. let w = two c in omega arith) a) k))
+      (pre-step frameOut whiteOut (beforeIt f v again rewhite gain1 inv) (beforeIt f v again rewhite gain1 inv) (omega arith) (λ z e. ap (beforeIt f v again rewhite gain1 inv) e)
+      (λ z a. before-past again rewhite f (v .a) gain1 inv (r .«prev_gain_Q16») (s .«prev_gain_Q16») (r .run) (s .run) (r .sLTP) (s .sLTP) (λ c. let w = two c in omega arith) a) k))

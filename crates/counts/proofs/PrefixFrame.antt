@@ -23,8 +23,8 @@ module _ (rule : Rule) (c : Call) (x y p : List ℤ) (t : ℕ) (eq : (j : ℕ) �
   -- subframe k, from kL samples to (k + 1)L
   step-by : (k : ℕ) (r q : Framed) → Pre frameOut (t - delayOf c) t (k * lengthOf c) r q
       → Pre frameOut (t - delayOf c) t (k * lengthOf c + lengthOf c)
-        (step rule (fixOf c k) (rowsOf c k) x (secondBy (givenOf c) k) (rewhitesBy (givenOf c) k) (word (c .«Gains_Q16») 1) (whiteGain c k) r)
-        (step rule (fixOf c k) (rowsOf c k) y (secondBy (givenOf c) k) (rewhitesBy (givenOf c) k) (word (c .«Gains_Q16») 1) (whiteGain c k) q)
+      (step rule (fixOf c k) (rowsOf c k) x (secondBy (givenOf c) k) (rewhitesBy (givenOf c) k) (word (c .«Gains_Q16») 1) (whiteGain c k) r)
+      (step rule (fixOf c k) (rowsOf c k) y (secondBy (givenOf c) k) (rewhitesBy (givenOf c) k) (word (c .«Gains_Q16») 1) (whiteGain c k) q)
   unfolding fixBy
   step-by k r q h =
       step-pre rule (fixOf c k) (rowsOf c k) (s .order10) (let a = s .shaping2 in omega arith) x y t eq (secondBy (givenOf c) k) (rewhitesBy (givenOf c) k) (word (c .«Gains_Q16») 1) (whiteGain c k)
@@ -33,8 +33,11 @@ module _ (rule : Rule) (c : Call) (x y p : List ℤ) (t : ℕ) (eq : (j : ℕ) �
   turn-pre : (k : ℕ) (r q : Framed) → Pre frameOut (t - delayOf c) t (k * lengthOf c) r q
       → Pre frameOut (t - delayOf c) t (suc k * lengthOf c) (subframeTurn rule c x k r) (subframeTurn rule c y k q)
   turn-pre k r q h =
-      rw (suc-mul k (lengthOf c), turn-is rule (givenOf c) x (c .«PredCoef_Q12») (c .«LTPCoef_Q14») (c .«AR_Q13») (c .«Tilt_Q14») (c .«HarmShapeGain_Q14») (c .«LF_shp_Q14») (c .«Gains_Q16») (c .pitchL) k r,
-        turn-is rule (givenOf c) y (c .«PredCoef_Q12») (c .«LTPCoef_Q14») (c .«AR_Q13») (c .«Tilt_Q14») (c .«HarmShapeGain_Q14») (c .«LF_shp_Q14») (c .«Gains_Q16») (c .pitchL) k q)
+      rw (
+        suc-mul k (lengthOf c),
+        turn-is rule (givenOf c) x (c .«PredCoef_Q12») (c .«LTPCoef_Q14») (c .«AR_Q13») (c .«Tilt_Q14») (c .«HarmShapeGain_Q14») (c .«LF_shp_Q14») (c .«Gains_Q16») (c .pitchL) k r,
+        turn-is rule (givenOf c) y (c .«PredCoef_Q12») (c .«LTPCoef_Q14») (c .«AR_Q13») (c .«Tilt_Q14») (c .«HarmShapeGain_Q14») (c .«LF_shp_Q14») (c .«Gains_Q16») (c .pitchL) k q,
+      )
       (step-by k r q h)
 
   run-pre : Pre frameOut (t - delayOf c) t (countOf c * lengthOf c) (run rule c x p) (run rule c y p)
@@ -50,9 +53,9 @@ module _ (rule : Rule) (c : Call) (x y p : List ℤ) (t : ℕ) (eq : (j : ℕ) �
       let words = c .state .«sLPC_Q14» in
       pre-step frameOut (λ (d : Done). d .pulses) (ended c) (ended c) {g = countOf c * lengthOf c} {g′ = countOf c * lengthOf c} (omega arith) (λ z e. ap (ended c) e)
       (λ z a.
-        rw (ended-is (givenOf c) last lag words r, ended-is (givenOf c) last lag words q)
-        (flush-past (lengthOf c) (delayOf c) (fitLast last) (countOf c * lengthOf c) (bestOf (r .run .core .ps .owns) (givenOf c .nStates)) (bestOf (q .run .core .ps .owns) (givenOf c .nStates)) (r .run) (q .run)
-          (omega arith) a)) h .out
+      rw (ended-is (givenOf c) last lag words r, ended-is (givenOf c) last lag words q)
+      (flush-past (lengthOf c) (delayOf c) (fitLast last) (countOf c * lengthOf c) (bestOf (r .run .core .ps .owns) (givenOf c .nStates)) (bestOf (q .run .core .ps .owns) (givenOf c .nStates)) (r .run) (q .run)
+      (omega arith) a)) h .out
 
   pub frame-pre : Below (t - delayOf c) (frame rule c x p .pulses) (frame rule c y p .pulses)
   frame-pre = rw (frame-is rule c x p, frame-is rule c y p) (ended-pre (run rule c x p) (run rule c y p) run-pre)

@@ -65,6 +65,7 @@ warped-same s a b order v w diff one e l =
   where
     begins : v ≡ w → iter (turn a v) (order - 1) (begin s order v diff) ≡ iter (turn a w) (order - 1) (begin s order w diff)
     begins q = ap (λ (z : ℤ). iter (turn a z) (order - 1) (begin s order z diff)) q
+
     last : (t : Filter) → write a (order - 1) t ≡ write b (order - 1) t
     last t = rw (e (order - 1) (omega arith)) refl
 

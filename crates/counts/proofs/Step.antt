@@ -48,4 +48,4 @@ pub step-same : (rule : Rule) (f : Fix) (v w : Rows) → RowsSame f v w → Behi
 step-same rule f v w s k x again rewhite gain1 inv inv′ t u p i r =
     rw (step-is rule f v x again rewhite gain1 inv t, step-is rule f w x again rewhite gain1 inv′ u)
     (coded-same rule f v w s k x _ _
-      (rw (r .row, r .gain) (before-same again rewhite f (v .a) (w .a) gain1 inv inv′ (u .«prev_gain_Q16») (t .run) (u .run) (u .sLTP) p (s .a) i (r .run))))
+    (rw (r .row, r .gain) (before-same again rewhite f (v .a) (w .a) gain1 inv inv′ (u .«prev_gain_Q16») (t .run) (u .run) (u .sLTP) p (s .a) i (r .run))))

@@ -57,8 +57,8 @@ unfolding harmonic
 harmonic-same f g h s t i ltp b r low e =
     either-same (ltb 0 (f .lag)) _ _ _ _
     (λ c.
-      let some = ltb-true 0 (f .lag) c in
-      ap (λ (z : ℤ). ltpTerm s (4 * f .«subfr_length» + f .base + i + 1 - f .lag) z ltp) (e some) ∙ shaped-same s t (4 * f .«subfr_length» + f .base + i + 1 - f .lag) h ltp b r (low some))
+    let some = ltb-true 0 (f .lag) c in
+    ap (λ (z : ℤ). ltpTerm s (4 * f .«subfr_length» + f .base + i + 1 - f .lag) z ltp) (e some) ∙ shaped-same s t (4 * f .«subfr_length» + f .base + i + 1 - f .lag) h ltp b r (low some))
     (λ c. refl)
 
 -- what all paths share
@@ -161,10 +161,10 @@ turn-same : (rule : Rule) (f : Fix) (v w : Rows) → RowsSame f v w → Behind f
     → Same m (4 * f .«subfr_length») (bound (f .first) (f .base) (f .decisionDelay) (suc i)) (turn rule f v x i t) (turn rule f w x i u)
 turn-same rule f v w s k x i {m} t u r =
     let e : took rule f v x i t ≡ took rule f w x i u =
-        took-same rule f v w s x x i refl t u (r .core)
-        (λ ltp.
-          harmonic-same f (v .half .«HarmShapeFIRPacked_Q14») (w .half .«HarmShapeFIRPacked_Q14») (t .«sLTP_shp_Q14») (u .«sLTP_shp_Q14») i ltp _ (r .shp)
-          (λ z. read-below (f .first) (4 * f .«subfr_length») (f .base) (f .decisionDelay) i (f .lag) (k .some) (k .lag z) (k .late)) (s .harm)) in
+    took-same rule f v w s x x i refl t u (r .core)
+    (λ ltp.
+    harmonic-same f (v .half .«HarmShapeFIRPacked_Q14») (w .half .«HarmShapeFIRPacked_Q14») (t .«sLTP_shp_Q14») (u .«sLTP_shp_Q14») i ltp _ (r .shp)
+    (λ z. read-below (f .first) (4 * f .«subfr_length») (f .base) (f .decisionDelay) i (f .lag) (k .some) (k .lag z) (k .late)) (s .harm)) in
     rw (turn-is rule f v x i t, turn-is rule f w x i u, e) (put-same f k i (took rule f w x i u) t u r)
 
 -- after the samples only LPC words move, and each path's by its own

@@ -1,0 +1,70 @@
+-- Demand 3, of the definition that demand 2's contracts cite: what doesn't count can't matter, and later sound can't change earlier pulses.
+-- For every rule of replacement, the Rust's and any other. Assumes nothing.
+use Prim.Native.Nat.{ℕ, _+_, _-_, _<_}
+use native.Mathlib.Omega.{arith}
+use mathlib.Core.Path.{_≡_, refl, sym, ap, _∙_, subst}
+use mathlib.Core.Bool.{Bool, true, false}
+use mathlib.Core.List.{List}
+use lib.ListN.{length}
+use lib.IntN.{ℤ}
+use lib.Dec.{eqb}
+use borrow.Author.Tests.{eqb-true, eqb-false}
+use Rattle.path.specs.Data.{word}
+use Rattle.among.specs.Among.{Rule}
+use Rattle.refusals.specs.Code.{codeOf}
+use Rattle.frame.specs.Call.{Call, delayOf}
+use Rattle.nsq.specs.Entry.{Outcome, sizesOf, answered, outcomeBy, outcome}
+use Rattle.nsq.proofs.Outcomes.{accepted-by, refused-by}
+use Rattle.counts.specs.Agree.{Alike, Agree}
+use Rattle.counts.proofs.Rows.{Below, below-refl, below-at}
+use Rattle.counts.proofs.Refusals.{answer-same}
+use Rattle.counts.proofs.Accepted.{Ready, ready}
+use Rattle.counts.proofs.PrefixFrame.{frame-pre}
+
+-- ---- the outcome by its number
+outcome-is : (rule : Rule) (c : Call) (x p : List ℤ) → outcome rule c x p ≡ outcomeBy rule c x p (answered c x p)
+unfolding outcome
+outcome-is rule c x p = refl
+
+outcome-answer : (rule : Rule) (c : Call) (x p : List ℤ) → outcome rule c x p .answer ≡ answered c x p
+outcome-answer rule c x p = go (eqb (codeOf (answered c x p)) 0) refl
+  where
+    go : (b : Bool) → eqb (codeOf (answered c x p)) 0 ≡ b → outcome rule c x p .answer ≡ answered c x p
+    go true e = ap (λ (o : Outcome). o .answer) (outcome-is rule c x p ∙ accepted-by rule c x p (answered c x p) (eqb-true _ _ e))
+    go false e =
+        let n = eqb-false (codeOf (answered c x p)) 0 e in
+        ap (λ (o : Outcome). o .answer) (outcome-is rule c x p ∙ refused-by rule c x p (answered c x p) (omega arith))
+
+-- ---- first half, the number: calls that agree in what counts get the same answer, refused calls of every number too
+pub same-number : (rule : Rule) (c d : Call) (x y p q : List ℤ) → Agree c x p d y q
+    → codeOf (outcome rule c x p .answer) ≡ codeOf (outcome rule d y q .answer)
+same-number rule c d x y p q h =
+    ap codeOf (outcome-answer rule c x p ∙ answer-same c d x y p q h ∙ sym (outcome-answer rule d y q))
+
+-- ---- second half
+-- samples of one length get the same number
+number-by-length : (c : Call) (x y p : List ℤ) → length x ≡ length y → answered c x p ≡ answered c y p
+unfolding answered sizesOf
+number-by-length c x y p e = rw e refl
+
+prefix-below : (rule : Rule) (c : Call) (x y p : List ℤ) (t : ℕ) → Alike t x y → Below (t - delayOf c) (outcome rule c x p .pulses) (outcome rule c y p .pulses)
+prefix-below rule c x y p t h = go (eqb (codeOf (answered c x p)) 0) refl
+  where
+    a : answered c y p ≡ answered c x p
+    a = sym (number-by-length c x y p (h .long))
+
+    go : (b : Bool) → eqb (codeOf (answered c x p)) 0 ≡ b → Below (t - delayOf c) (outcome rule c x p .pulses) (outcome rule c y p .pulses)
+    go true e =
+        let z : codeOf (answered c x p) ≡ 0 = eqb-true _ _ e in
+        rw (outcome-is rule c x p, outcome-is rule c y p, a, accepted-by rule c x p (answered c x p) z, accepted-by rule c y p (answered c x p) z)
+        (frame-pre rule c x y p t (h .words) (ready c x p z .sound))
+    go false e =
+        let n = eqb-false (codeOf (answered c x p)) 0 e in
+        let z : 0 < codeOf (answered c x p) = omega arith in
+        rw (outcome-is rule c x p, outcome-is rule c y p, a, refused-by rule c x p (answered c x p) z, refused-by rule c y p (answered c x p) z)
+        (below-refl _ _)
+
+-- two calls that differ only in samples from t on: every pulse at a place i with i + D < t is equal, D the decision delay
+pub prefix : (rule : Rule) (c : Call) (x y p : List ℤ) (t : ℕ) → Alike t x y → (i : ℕ) → i + delayOf c < t
+    → word (outcome rule c x p .pulses) i ≡ word (outcome rule c y p .pulses) i
+prefix rule c x y p t h i k = below-at (prefix-below rule c x y p t h) i (omega arith)
