@@ -11,4 +11,5 @@ pub mod Prefix
 pub mod Accepted
 pub mod Frame
 pub mod PrefixFrame
+pub mod Calls
 pub mod Theorems
