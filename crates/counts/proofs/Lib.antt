@@ -12,4 +12,5 @@ pub mod Accepted
 pub mod Frame
 pub mod PrefixFrame
 pub mod Calls
+pub mod Whole
 pub mod Theorems
