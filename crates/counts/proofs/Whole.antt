@@ -21,7 +21,7 @@ use Rattle.frame.specs.declared.call.Given.{Given}
 use Rattle.frame.specs.Call.{Call, givenOf, lengthOf, countOf, pathsOf, delayOf, secondBy, rewhitesBy, sinceBy, fixBy, fixOf, rowsBy, rowsOf, whiteBy}
 use Rattle.frame.specs.Begin.{zeroPath, zeroLpcs, zeroRings, copyTurn, startLpc, startRings, beginTurn, begun}
 use Rattle.frame.specs.Flush.{bestOf, fitLast, Outs}
-use Rattle.frame.specs.Frame.{Framed, startPaths, start, flushedRun, step, turnBy, subframeTurn, run, downTurn, movedDown, wordsTurn, wordsFrom, Done, leftBy, endedWith, ended, frame}
+use Rattle.frame.specs.Frame.{Framed, startPaths, start, flushedRun, step, turnBy, subframeTurn, run, downTurn, movedDown, wordsTurn, wordsFrom, Done, leftBy, handedOut, endedBy, ended, frame}
 use Rattle.counts.specs.Agree.{Alike, StateAgree, Agree}
 use Rattle.counts.proofs.Rows.{Below, below-at, below-less, below-set, below-all, from-alike, to-alike}
 use Rattle.counts.proofs.Subframe.{Same, bound}
@@ -79,6 +79,13 @@ pub record DoneSame (l : ℕ) (e u : Done) : Type 0 where
   pub seed : e .seed ≡ u .seed
   pub state : StateAgree l (e .state) (u .state)
   pub lagPrev : e .state .lagPrev ≡ u .state .lagPrev
+
+handed-same : (g : Given) (w s : ℤ) (prev : ℕ) (lag : ℤ) (words words′ : List ℤ) (gain : ℤ) (p : Path) (lpc : List ℤ) {m : ℕ} (o u : Outs) → m ≡ g .«nb_subfr» * g .«subfr_length»
+    → Below 16 words words′ → OutsSame m (4 * g .«subfr_length») (g .«nb_subfr» * g .«subfr_length») o u
+    → DoneSame (g .«subfr_length») (handedOut g lag words gain p lpc o) (handedOut (other g w s prev) lag words′ gain p lpc u)
+handed-same g w s prev lag words words′ gain p lpc o u k e a =
+    let z = left-same g w s prev lag words words′ gain p lpc (o .xq) (u .xq) (o .«sLTP_shp_Q14») (u .«sLTP_shp_Q14») e (a .xq) (a .shp) in
+    record { pulses = below-all (a .out) (omega (arith, a .long)); seed = refl; state = z .0; lagPrev = z .1 }
 
 -- ---- two calls
 module _ (c d : Call) (x y p q : List ℤ) (h : Agree c x p d y q) (r : Ready c x p) where
@@ -149,3 +156,44 @@ module _ (c d : Call) (x y p q : List ℤ) (h : Agree c x p d y q) (r : Ready c 
   run-same : (rule : Rule) → FrameSame (length p) (4 * lengthOf c) (countOf c * lengthOf c - delayOf c) (run rule c x p) (run rule d y q)
   run-same rule =
       run-rel (λ k. FrameSame (length p) (4 * lengthOf c) (k * lengthOf c - delayOf c)) rule c d x y p q count-is (λ k b t u. turn-same rule k b t u) start-same
+
+  -- ---- the end
+  -- the last lag
+  last-same : word (c .pitchL) (countOf c - 1) ≡ word (d .pitchL) (countOf c - 1)
+  unfolding lastOf
+  last-same = rw (← r .lags) (h .last ∙ rw (← h .lagsLong) refl)
+
+  -- the end of the one, by what it shares with the other
+  ended-c : (t u : Framed) → FrameSame (length p) (4 * lengthOf c) (countOf c * lengthOf c - delayOf c) t u
+      → ended c t
+        ≡ handedOut (givenOf c) (word (d .pitchL) (countOf c - 1)) (c .state .«sLPC_Q14») (u .«prev_gain_Q16») (getD (u .run .core .ps .owns) (bestOf (u .run .core .ps .owns) (pathsOf c)) noPath)
+          (getD (u .run .core .ps .lpcs) (bestOf (u .run .core .ps .owns) (pathsOf c)) [])
+          (flushedRun (lengthOf c) (delayOf c) (fitLast (word (c .«Gains_Q16») (countOf c - 1))) (countOf c * lengthOf c) (bestOf (u .run .core .ps .owns) (pathsOf c)) (t .run))
+  ended-c t u s =
+      ended-is (givenOf c) (word (c .«Gains_Q16») (countOf c - 1)) (word (c .pitchL) (countOf c - 1)) (c .state .«sLPC_Q14») t
+      ∙ (λ i.
+        handedOut (givenOf c) (last-same i) (c .state .«sLPC_Q14») (s .gain i) (getD (s .run .core i .ps .owns) (bestOf (s .run .core i .ps .owns) (pathsOf c)) noPath)
+        (getD (s .run .core i .ps .lpcs) (bestOf (s .run .core i .ps .owns) (pathsOf c)) [])
+        (flushedRun (lengthOf c) (delayOf c) (fitLast (word (c .«Gains_Q16») (countOf c - 1))) (countOf c * lengthOf c) (bestOf (s .run .core i .ps .owns) (pathsOf c)) (t .run)))
+
+  ended-d : (u : Framed)
+      → ended d u
+        ≡ handedOut (otherOf c d) (word (d .pitchL) (countOf c - 1)) (d .state .«sLPC_Q14») (u .«prev_gain_Q16») (getD (u .run .core .ps .owns) (bestOf (u .run .core .ps .owns) (pathsOf c)) noPath)
+          (getD (u .run .core .ps .lpcs) (bestOf (u .run .core .ps .owns) (pathsOf c)) [])
+          (flushedRun (lengthOf c) (delayOf c) (fitLast (word (c .«Gains_Q16») (countOf c - 1))) (countOf c * lengthOf c) (bestOf (u .run .core .ps .owns) (pathsOf c)) (u .run))
+  ended-d u =
+      ap (λ (g : Given). endedBy g (word (d .«Gains_Q16») (g .«nb_subfr» - 1)) (word (d .pitchL) (g .«nb_subfr» - 1)) (d .state .«sLPC_Q14») u) (given-same c d x y p q h)
+      ∙ ap (λ (l : List ℤ). endedBy (otherOf c d) (word l (countOf c - 1)) (word (d .pitchL) (countOf c - 1)) (d .state .«sLPC_Q14») u) (sym (h .gains))
+      ∙ ended-is (otherOf c d) (word (c .«Gains_Q16») (countOf c - 1)) (word (d .pitchL) (countOf c - 1)) (d .state .«sLPC_Q14») u
+
+  ended-same : (t u : Framed) → FrameSame (length p) (4 * lengthOf c) (countOf c * lengthOf c - delayOf c) t u → DoneSame (lengthOf c) (ended c t) (ended d u)
+  ended-same t u s =
+      let w = bestOf (u .run .core .ps .owns) (pathsOf c) in
+      let two : delayOf c ≤ countOf c * lengthOf c = omega (arith, r .sound .delayShort, mul-le-mul-right (lengthOf c) (r .sound .some)) in
+      let o = flush-same (lengthOf c) (delayOf c) (fitLast (word (c .«Gains_Q16») (countOf c - 1))) (countOf c * lengthOf c) w (t .run) (u .run) two (s .run) in
+      rw (ended-c t u s, ended-d u)
+      (handed-same (givenOf c) (d .settings .«warping_Q16») (d .settings .«LTP_scale_Q14») (natZ (d .state .lagPrev)) (word (d .pitchL) (countOf c - 1)) (c .state .«sLPC_Q14») (d .state .«sLPC_Q14») (u .«prev_gain_Q16»)
+        (getD (u .run .core .ps .owns) w noPath) (getD (u .run .core .ps .lpcs) w []) _ _ (r .pulses) (from-alike (h .state .lpc)) o)
+
+  pub frame-same : (rule : Rule) → DoneSame (lengthOf c) (frame rule c x p) (frame rule d y q)
+  frame-same rule = rw (frame-is rule c x p, frame-is rule d y q) (ended-same (run rule c x p) (run rule d y q) (run-same rule))
