@@ -100,6 +100,7 @@ row-is c k Q h few f g = go (givenOf c .interpolated) refl
   where
     two : (c .settings .«nb_subfr» ≡ pos 2) → countOf c ≡ 2
     two e = settled c .count ∙ ap natZ e
+
     go : (b : Bool) → givenOf c .interpolated ≡ b → Q (either b (k / 2) 1)
     go false e = g (λ z. z .1 (one-row c e))
     go true e = half (ltb k 2) refl

@@ -12,14 +12,17 @@ use borrow.Author.Tests.{eqb-true, eqb-false}
 use Rattle.path.specs.Data.{word}
 use Rattle.among.specs.Among.{Rule}
 use Rattle.refusals.specs.Code.{codeOf}
+use Rattle.refusals.specs.Count.{natZ}
 use Rattle.frame.specs.Call.{Call, delayOf}
 use Rattle.nsq.specs.Entry.{Outcome, sizesOf, answered, outcomeBy, outcome}
 use Rattle.nsq.proofs.Outcomes.{accepted-by, refused-by}
-use Rattle.counts.specs.Agree.{Alike, Agree}
+use Rattle.counts.specs.Agree.{Alike, Agree, HandsOutSame, SameOutcome}
 use Rattle.counts.proofs.Rows.{Below, below-refl, below-at}
 use Rattle.counts.proofs.Refusals.{answer-same}
 use Rattle.counts.proofs.Accepted.{Ready, ready}
 use Rattle.counts.proofs.PrefixFrame.{frame-pre}
+use Rattle.counts.proofs.Calls.{settled}
+use Rattle.counts.proofs.Whole.{frame-same}
 
 -- ---- the outcome by its number
 outcome-is : (rule : Rule) (c : Call) (x p : List ℤ) → outcome rule c x p ≡ outcomeBy rule c x p (answered c x p)
@@ -40,6 +43,23 @@ pub same-number : (rule : Rule) (c d : Call) (x y p q : List ℤ) → Agree c x 
     → codeOf (outcome rule c x p .answer) ≡ codeOf (outcome rule d y q .answer)
 same-number rule c d x y p q h =
     ap codeOf (outcome-answer rule c x p ∙ answer-same c d x y p q h ∙ sym (outcome-answer rule d y q))
+
+-- ---- first half, all of it: where the number is 0, pulses, seed and every word of the state that counts are the same
+handed : (rule : Rule) (c d : Call) (x y p q : List ℤ) → Agree c x p d y q → codeOf (answered c x p) ≡ 0
+    → HandsOutSame (natZ (c .settings .«subfr_length»)) (outcome rule c x p) (outcome rule d y q)
+handed rule c d x y p q h e =
+    let a = answer-same c d x y p q h in
+    let z = frame-same c d x y p q h (ready c x p e) rule in
+    rw (outcome-is rule c x p, outcome-is rule d y q, ← a, accepted-by rule c x p (answered c x p) e, accepted-by rule d y q (answered c x p) e)
+    (record { pulses = z .pulses; seed = z .seed; state = rw (settled c .length) at (z .state); lagPrev = z .lagPrev })
+
+pub same-outcome : (rule : Rule) (c d : Call) (x y p q : List ℤ) → Agree c x p d y q
+    → SameOutcome (natZ (c .settings .«subfr_length»)) (outcome rule c x p) (outcome rule d y q)
+same-outcome rule c d x y p q h =
+    record {
+      answer = outcome-answer rule c x p ∙ answer-same c d x y p q h ∙ sym (outcome-answer rule d y q);
+      handsOut = λ e. handed rule c d x y p q h (ap codeOf (sym (outcome-answer rule c x p)) ∙ e);
+    }
 
 -- ---- second half
 -- samples of one length get the same number
@@ -68,3 +88,9 @@ prefix-below rule c x y p t h = go (eqb (codeOf (answered c x p)) 0) refl
 pub prefix : (rule : Rule) (c : Call) (x y p : List ℤ) (t : ℕ) → Alike t x y → (i : ℕ) → i + delayOf c < t
     → word (outcome rule c x p .pulses) i ≡ word (outcome rule c y p .pulses) i
 prefix rule c x y p t h i k = below-at (prefix-below rule c x y p t h) i (omega arith)
+
+-- both halves at once: accepted calls that agree in what counts but for samples from t on
+pub prefix-of-agreeing : (rule : Rule) (c d : Call) (x y p q : List ℤ) (t : ℕ) → Agree c x p d x q → Alike t x y → codeOf (outcome rule c x p .answer) ≡ 0
+    → (i : ℕ) → i + delayOf d < t → word (outcome rule c x p .pulses) i ≡ word (outcome rule d y q .pulses) i
+prefix-of-agreeing rule c d x y p q t h a e i k =
+    ap (λ (l : List ℤ). word l i) (same-outcome rule c d x x p q h .handsOut e .pulses) ∙ prefix rule d x y q t a i k

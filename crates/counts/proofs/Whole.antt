@@ -59,19 +59,20 @@ left-same : (g : Given) (w s : ℤ) (prev : ℕ) (lag : ℤ) (words words′ : L
     → Below 16 words words′ → Below (4 * g .«subfr_length» + g .«nb_subfr» * g .«subfr_length») xq xq′
     → Below (4 * g .«subfr_length» + g .«nb_subfr» * g .«subfr_length») shp shp′
     → StateAgree (g .«subfr_length») (leftBy g lag words gain p lpc xq shp) (leftBy (other g w s prev) lag words′ gain p lpc xq′ shp′)
-      × (leftBy g lag words gain p lpc xq shp .lagPrev ≡ leftBy (other g w s prev) lag words′ gain p lpc xq′ shp′ .lagPrev)
+    × (leftBy g lag words gain p lpc xq shp .lagPrev ≡ leftBy (other g w s prev) lag words′ gain p lpc xq′ shp′ .lagPrev)
 unfolding leftBy
-left-same g w s prev lag words words′ gain p lpc xq xq′ shp shp′ e a b =
-    (record {
-      xq = to-alike (moved-same (g .«nb_subfr» * g .«subfr_length») (4 * g .«subfr_length») a);
-      shp = to-alike (moved-same (g .«nb_subfr» * g .«subfr_length») (4 * g .«subfr_length») b);
-      lpc = to-alike (words-same lpc (g .«subfr_length») 16 e);
-      ar2 = refl;
-      lf = refl;
-      diff = refl;
-      gain = refl;
-    },
-    refl)
+left-same g w s prev lag words words′ gain p lpc xq xq′ shp shp′ e a b = (
+  record {
+    xq = to-alike (moved-same (g .«nb_subfr» * g .«subfr_length») (4 * g .«subfr_length») a);
+    shp = to-alike (moved-same (g .«nb_subfr» * g .«subfr_length») (4 * g .«subfr_length») b);
+    lpc = to-alike (words-same lpc (g .«subfr_length») 16 e);
+    ar2 = refl;
+    lf = refl;
+    diff = refl;
+    gain = refl;
+  },
+  refl,
+)
 
 -- what is handed out
 pub record DoneSame (l : ℕ) (e u : Done) : Type 0 where
@@ -106,10 +107,17 @@ module _ (c d : Call) (x y p q : List ℤ) (h : Agree c x p d y q) (r : Ready c 
   paths-same : startPaths c ≡ startPaths d
   unfolding startPaths
   paths-same =
-      rw (length-is, paths-is, ← h .Seed, ← h .state .ar2, ← h .state .lf, ← h .state .diff,
-        ← below-at (history (c .state .«sLTP_shp_Q14») (d .state .«sLTP_shp_Q14») (h .state .shp)) (4 * lengthOf c - 1) (omega (arith, r .sound .long)))
+      rw (
+        length-is,
+        paths-is,
+        ← h .Seed,
+        ← h .state .ar2,
+        ← h .state .lf,
+        ← h .state .diff,
+        ← below-at (history (c .state .«sLTP_shp_Q14») (d .state .«sLTP_shp_Q14») (h .state .shp)) (4 * lengthOf c - 1) (omega (arith, r .sound .long)),
+      )
       (begun-same (c .state .«sAR2_Q14») (c .state .«sLF_AR_shp_Q14») (c .state .«sDiff_shp_Q14») (c .state .«sLPC_Q14») (d .state .«sLPC_Q14»)
-        (word (c .state .«sLTP_shp_Q14») (4 * lengthOf c - 1)) (natZ (c .settings .Seed)) (pathsOf c) (paths (replicate 4 zeroPath) zeroLpcs zeroRings) (h .state .lpc))
+      (word (c .state .«sLTP_shp_Q14») (4 * lengthOf c - 1)) (natZ (c .settings .Seed)) (pathsOf c) (paths (replicate 4 zeroPath) zeroLpcs zeroRings) (h .state .lpc))
 
   start-same : FrameSame (length p) (4 * lengthOf c) (0 * lengthOf c - delayOf c) (start c p) (start d q)
   unfolding start
@@ -133,8 +141,8 @@ module _ (c d : Call) (x y p q : List ℤ) (h : Agree c x p d y q) (r : Ready c 
   -- ---- subframe k
   step-by : (rule : Rule) (k : ℕ) → k < countOf c → (t u : Framed) → FrameSame (length p) (4 * lengthOf c) (k * lengthOf c - delayOf c) t u
       → FrameSame (length p) (4 * lengthOf c) (bound (eqb (sinceBy (givenOf c) k) 0) (k * lengthOf c) (delayOf c) (lengthOf c))
-        (step rule (fixOf c k) (rowsOf c k) x (secondBy (givenOf c) k) (rewhitesBy (givenOf c) k) (word (c .«Gains_Q16») 1) (whiteBy (givenOf c) (word (c .«Gains_Q16») k) k) t)
-        (step rule (fixOf c k) (rowsBy (otherOf c d) (d .«PredCoef_Q12») (d .«LTPCoef_Q14») (d .«AR_Q13») (d .«Tilt_Q14») (d .«HarmShapeGain_Q14») k) x (secondBy (givenOf c) k) (rewhitesBy (givenOf c) k) (word (c .«Gains_Q16») 1) (whiteBy (otherOf c d) (word (c .«Gains_Q16») k) k) u)
+      (step rule (fixOf c k) (rowsOf c k) x (secondBy (givenOf c) k) (rewhitesBy (givenOf c) k) (word (c .«Gains_Q16») 1) (whiteBy (givenOf c) (word (c .«Gains_Q16») k) k) t)
+      (step rule (fixOf c k) (rowsBy (otherOf c d) (d .«PredCoef_Q12») (d .«LTPCoef_Q14») (d .«AR_Q13») (d .«Tilt_Q14») (d .«HarmShapeGain_Q14») k) x (secondBy (givenOf c) k) (rewhitesBy (givenOf c) k) (word (c .«Gains_Q16») 1) (whiteBy (otherOf c d) (word (c .«Gains_Q16») k) k) u)
   unfolding fixBy
   step-by rule k b t u s =
       step-same rule (fixOf c k) (rowsOf c k) _ (rows-same c d x y p q h r k b) (behind (givenOf c) (c .pitchL) (c .«LF_shp_Q14») (c .«Gains_Q16») k (r .sound) (r .early k b)) x
@@ -145,12 +153,16 @@ module _ (c d : Call) (x y p q : List ℤ) (h : Agree c x p d y q) (r : Ready c 
       → FrameSame (length p) (4 * lengthOf c) (suc k * lengthOf c - delayOf c) (subframeTurn rule c x k t) (subframeTurn rule d y k u)
   turn-same rule k b t u s =
       let e = ends (eqb (sinceBy (givenOf c) k) 0) (k * lengthOf c) (delayOf c) (lengthOf c) (r .sound .delayShort) ∙ ap (λ (m : ℕ). m - delayOf c) (sym (suc-mul k (lengthOf c))) in
-      rw (given-same c d x y p q h, ← h .samples,
+      rw (
+        given-same c d x y p q h,
+        ← h .samples,
         turn-is rule (givenOf c) x (c .«PredCoef_Q12») (c .«LTPCoef_Q14») (c .«AR_Q13») (c .«Tilt_Q14») (c .«HarmShapeGain_Q14») (c .«LF_shp_Q14») (c .«Gains_Q16») (c .pitchL) k t,
         turn-is rule (otherOf c d) x (d .«PredCoef_Q12») (d .«LTPCoef_Q14») (d .«AR_Q13») (d .«Tilt_Q14») (d .«HarmShapeGain_Q14») (d .«LF_shp_Q14») (d .«Gains_Q16») (d .pitchL) k u,
-        ← fix-same c d x y p q h k, ← h .gains,
+        ← fix-same c d x y p q h k,
+        ← h .gains,
         second-other (givenOf c) (d .settings .«warping_Q16») (d .settings .«LTP_scale_Q14») (natZ (d .state .lagPrev)) k,
-        rewhites-other (givenOf c) (d .settings .«warping_Q16») (d .settings .«LTP_scale_Q14») (natZ (d .state .lagPrev)) k)
+        rewhites-other (givenOf c) (d .settings .«warping_Q16») (d .settings .«LTP_scale_Q14») (natZ (d .state .lagPrev)) k,
+      )
       (rw e at (step-by rule k b t u s))
 
   run-same : (rule : Rule) → FrameSame (length p) (4 * lengthOf c) (countOf c * lengthOf c - delayOf c) (run rule c x p) (run rule d y q)
@@ -166,21 +178,21 @@ module _ (c d : Call) (x y p q : List ℤ) (h : Agree c x p d y q) (r : Ready c 
   -- the end of the one, by what it shares with the other
   ended-c : (t u : Framed) → FrameSame (length p) (4 * lengthOf c) (countOf c * lengthOf c - delayOf c) t u
       → ended c t
-        ≡ handedOut (givenOf c) (word (d .pitchL) (countOf c - 1)) (c .state .«sLPC_Q14») (u .«prev_gain_Q16») (getD (u .run .core .ps .owns) (bestOf (u .run .core .ps .owns) (pathsOf c)) noPath)
-          (getD (u .run .core .ps .lpcs) (bestOf (u .run .core .ps .owns) (pathsOf c)) [])
-          (flushedRun (lengthOf c) (delayOf c) (fitLast (word (c .«Gains_Q16») (countOf c - 1))) (countOf c * lengthOf c) (bestOf (u .run .core .ps .owns) (pathsOf c)) (t .run))
+      ≡ handedOut (givenOf c) (word (d .pitchL) (countOf c - 1)) (c .state .«sLPC_Q14») (u .«prev_gain_Q16») (getD (u .run .core .ps .owns) (bestOf (u .run .core .ps .owns) (pathsOf c)) noPath)
+      (getD (u .run .core .ps .lpcs) (bestOf (u .run .core .ps .owns) (pathsOf c)) [])
+      (flushedRun (lengthOf c) (delayOf c) (fitLast (word (c .«Gains_Q16») (countOf c - 1))) (countOf c * lengthOf c) (bestOf (u .run .core .ps .owns) (pathsOf c)) (t .run))
   ended-c t u s =
       ended-is (givenOf c) (word (c .«Gains_Q16») (countOf c - 1)) (word (c .pitchL) (countOf c - 1)) (c .state .«sLPC_Q14») t
       ∙ (λ i.
-        handedOut (givenOf c) (last-same i) (c .state .«sLPC_Q14») (s .gain i) (getD (s .run .core i .ps .owns) (bestOf (s .run .core i .ps .owns) (pathsOf c)) noPath)
-        (getD (s .run .core i .ps .lpcs) (bestOf (s .run .core i .ps .owns) (pathsOf c)) [])
-        (flushedRun (lengthOf c) (delayOf c) (fitLast (word (c .«Gains_Q16») (countOf c - 1))) (countOf c * lengthOf c) (bestOf (s .run .core i .ps .owns) (pathsOf c)) (t .run)))
+      handedOut (givenOf c) (last-same i) (c .state .«sLPC_Q14») (s .gain i) (getD (s .run .core i .ps .owns) (bestOf (s .run .core i .ps .owns) (pathsOf c)) noPath)
+      (getD (s .run .core i .ps .lpcs) (bestOf (s .run .core i .ps .owns) (pathsOf c)) [])
+      (flushedRun (lengthOf c) (delayOf c) (fitLast (word (c .«Gains_Q16») (countOf c - 1))) (countOf c * lengthOf c) (bestOf (s .run .core i .ps .owns) (pathsOf c)) (t .run)))
 
   ended-d : (u : Framed)
       → ended d u
-        ≡ handedOut (otherOf c d) (word (d .pitchL) (countOf c - 1)) (d .state .«sLPC_Q14») (u .«prev_gain_Q16») (getD (u .run .core .ps .owns) (bestOf (u .run .core .ps .owns) (pathsOf c)) noPath)
-          (getD (u .run .core .ps .lpcs) (bestOf (u .run .core .ps .owns) (pathsOf c)) [])
-          (flushedRun (lengthOf c) (delayOf c) (fitLast (word (c .«Gains_Q16») (countOf c - 1))) (countOf c * lengthOf c) (bestOf (u .run .core .ps .owns) (pathsOf c)) (u .run))
+      ≡ handedOut (otherOf c d) (word (d .pitchL) (countOf c - 1)) (d .state .«sLPC_Q14») (u .«prev_gain_Q16») (getD (u .run .core .ps .owns) (bestOf (u .run .core .ps .owns) (pathsOf c)) noPath)
+      (getD (u .run .core .ps .lpcs) (bestOf (u .run .core .ps .owns) (pathsOf c)) [])
+      (flushedRun (lengthOf c) (delayOf c) (fitLast (word (c .«Gains_Q16») (countOf c - 1))) (countOf c * lengthOf c) (bestOf (u .run .core .ps .owns) (pathsOf c)) (u .run))
   ended-d u =
       ap (λ (g : Given). endedBy g (word (d .«Gains_Q16») (g .«nb_subfr» - 1)) (word (d .pitchL) (g .«nb_subfr» - 1)) (d .state .«sLPC_Q14») u) (given-same c d x y p q h)
       ∙ ap (λ (l : List ℤ). endedBy (otherOf c d) (word l (countOf c - 1)) (word (d .pitchL) (countOf c - 1)) (d .state .«sLPC_Q14») u) (sym (h .gains))
@@ -193,7 +205,7 @@ module _ (c d : Call) (x y p q : List ℤ) (h : Agree c x p d y q) (r : Ready c 
       let o = flush-same (lengthOf c) (delayOf c) (fitLast (word (c .«Gains_Q16») (countOf c - 1))) (countOf c * lengthOf c) w (t .run) (u .run) two (s .run) in
       rw (ended-c t u s, ended-d u)
       (handed-same (givenOf c) (d .settings .«warping_Q16») (d .settings .«LTP_scale_Q14») (natZ (d .state .lagPrev)) (word (d .pitchL) (countOf c - 1)) (c .state .«sLPC_Q14») (d .state .«sLPC_Q14») (u .«prev_gain_Q16»)
-        (getD (u .run .core .ps .owns) w noPath) (getD (u .run .core .ps .lpcs) w []) _ _ (r .pulses) (from-alike (h .state .lpc)) o)
+      (getD (u .run .core .ps .owns) w noPath) (getD (u .run .core .ps .lpcs) w []) _ _ (r .pulses) (from-alike (h .state .lpc)) o)
 
   pub frame-same : (rule : Rule) → DoneSame (lengthOf c) (frame rule c x p) (frame rule d y q)
   frame-same rule = rw (frame-is rule c x p, frame-is rule d y q) (ended-same (run rule c x p) (run rule d y q) (run-same rule))
