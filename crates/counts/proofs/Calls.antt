@@ -98,16 +98,13 @@ row-is : (c : Call) (k : ℕ) (Q : ℕ → Type 0) → k < countOf c → countOf
 unfolding rowBy
 row-is c k Q h few f g = go (givenOf c .interpolated) refl
   where
-    two : (c .settings .«nb_subfr» ≡ pos 2) → countOf c ≡ 2
-    two e = settled c .count ∙ ap natZ e
-
     go : (b : Bool) → givenOf c .interpolated ≡ b → Q (either b (k / 2) 1)
     go false e = g (λ z. z .1 (one-row c e))
     go true e = half (ltb k 2) refl
       where
         half : (b : Bool) → ltb k 2 ≡ b → Q (k / 2)
         half true q = let z = ltb-true k 2 q in let o : k / 2 ≡ 0 = omega arith in rw o (f (two-rows c e))
-        half false q = let z = ltb-false k 2 q in let o : k / 2 ≡ 1 = omega arith in rw o (g (λ w. let v = two (w .0) in absurd (omega arith)))
+        half false q = let z = ltb-false k 2 q in let o : k / 2 ≡ 1 = omega arith in rw o (g (λ w. absurd (omega (arith, settled c .count, ap natZ (w .0)))))
 
 -- of the LTP scale the low half is read
 low-scale : (inv a b : ℤ) → wrap16 a ≡ wrap16 b → «ltp_scaled_inv_gain» inv a ≡ «ltp_scaled_inv_gain» inv b
@@ -155,7 +152,7 @@ module _ (c d : Call) (x y p q : List ℤ) (h : Agree c x p d y q) where
       → word (c .«PredCoef_Q12») (rowBy (givenOf c) k * 16 + j) ≡ word (d .«PredCoef_Q12») (rowBy (givenOf c) k * 16 + j)
   pred-same r k b j o =
       row-is c k (λ (i : ℕ). word (c .«PredCoef_Q12») (i * 16 + j) ≡ word (d .«PredCoef_Q12») (i * 16 + j)) b (r .sound .few)
-      (λ v. simp (zero-mul, zero-add) (h .pred0 v j (rw (settled c .order) at o))) (λ v. simp one-mul (h .pred1 v j (rw (settled c .order) at o)))
+      (λ v. simp (zero-mul, zero-add) (h .pred0 v j (omega (arith, settled c .order)))) (λ v. simp one-mul (h .pred1 v j (omega (arith, settled c .order))))
 
   -- the harmonic gains count where there is a lag
   harm-same : (k : ℕ) → 0 < lagOf c k → c .«HarmShapeGain_Q14» ≡ d .«HarmShapeGain_Q14»
@@ -178,7 +175,7 @@ module _ (c d : Call) (x y p q : List ℤ) (h : Agree c x p d y q) where
         ten = r .sound .order10;
         ar = λ j o.
             let i : j < 24 = omega (arith, r .sound .shaping24) in
-            part-word 24 (k * 24) (c .«AR_Q13») j i ∙ h .ar k j (rw (settled c .count) at b) (rw (settled c .shaping) at o) ∙ sym (part-word 24 (k * 24) (d .«AR_Q13») j i);
+            part-word 24 (k * 24) (c .«AR_Q13») j i ∙ h .ar k j (omega (arith, settled c .count)) (omega (arith, settled c .shaping)) ∙ sym (part-word 24 (k * 24) (d .«AR_Q13») j i);
         one = let z = r .sound .shaping2 in omega arith;
         b = λ v. ap (λ (l : List ℤ). take 5 (drop (k * 5) l)) (h .ltp (voiced-is c v));
         warping = ap wrap16 (settled c .warping) ∙ h .warping;

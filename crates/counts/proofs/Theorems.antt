@@ -16,7 +16,7 @@ use Rattle.refusals.specs.Count.{natZ}
 use Rattle.frame.specs.Call.{Call, delayOf}
 use Rattle.nsq.specs.Entry.{Outcome, sizesOf, answered, outcomeBy, outcome}
 use Rattle.nsq.proofs.Outcomes.{accepted-by, refused-by}
-use Rattle.counts.specs.Agree.{Alike, Agree, HandsOutSame, SameOutcome}
+use Rattle.counts.specs.Agree.{Alike, Agree, HandsOutSame, SameOutcome, Decided}
 use Rattle.counts.proofs.Rows.{Below, below-refl, below-at}
 use Rattle.counts.proofs.Refusals.{answer-same}
 use Rattle.counts.proofs.Accepted.{Ready, ready}
@@ -85,12 +85,12 @@ prefix-below rule c x y p t h = go (eqb (codeOf (answered c x p)) 0) refl
         (below-refl _ _)
 
 -- two calls that differ only in samples from t on: every pulse at a place i with i + D < t is equal, D the decision delay
-pub prefix : (rule : Rule) (c : Call) (x y p : List ℤ) (t : ℕ) → Alike t x y → (i : ℕ) → i + delayOf c < t
+pub prefix : (rule : Rule) (c : Call) (x y p : List ℤ) (t : ℕ) → Alike t x y → (i : ℕ) → Decided (delayOf c) t i
     → word (outcome rule c x p .pulses) i ≡ word (outcome rule c y p .pulses) i
 prefix rule c x y p t h i k = below-at (prefix-below rule c x y p t h) i (omega arith)
 
 -- both halves at once: accepted calls that agree in what counts but for samples from t on
 pub prefix-of-agreeing : (rule : Rule) (c d : Call) (x y p q : List ℤ) (t : ℕ) → Agree c x p d x q → Alike t x y → codeOf (outcome rule c x p .answer) ≡ 0
-    → (i : ℕ) → i + delayOf d < t → word (outcome rule c x p .pulses) i ≡ word (outcome rule d y q .pulses) i
+    → (i : ℕ) → Decided (delayOf d) t i → word (outcome rule c x p .pulses) i ≡ word (outcome rule d y q .pulses) i
 prefix-of-agreeing rule c d x y p q t h a e i k =
     ap (λ (l : List ℤ). word l i) (same-outcome rule c d x x p q h .handsOut e .pulses) ∙ prefix rule d x y q t a i k

@@ -22,7 +22,7 @@ use Rattle.frame.specs.Call.{Call, givenOf, lengthOf, countOf, pathsOf, delayOf
 use Rattle.frame.specs.Begin.{zeroPath, zeroLpcs, zeroRings, copyTurn, startLpc, startRings, beginTurn, begun}
 use Rattle.frame.specs.Flush.{bestOf, fitLast, Outs}
 use Rattle.frame.specs.Frame.{Framed, startPaths, start, flushedRun, step, turnBy, subframeTurn, run, downTurn, movedDown, wordsTurn, wordsFrom, Done, leftBy, handedOut, endedBy, ended, frame}
-use Rattle.counts.specs.Agree.{Alike, StateAgree, Agree}
+use Rattle.counts.specs.Agree.{StateAgree, Agree}
 use Rattle.counts.proofs.Rows.{Below, below-at, below-less, below-set, below-all, from-alike, to-alike}
 use Rattle.counts.proofs.Subframe.{Same, bound}
 use Rattle.counts.proofs.Flush.{OutsSame, flush-same}
@@ -33,11 +33,11 @@ use Rattle.counts.proofs.Frame.{turn-is, run-rel, ended-is, frame-is}
 use Rattle.counts.proofs.Calls.{other, otherOf, second-other, rewhites-other, settled, given-same, fix-same, inv-same, rows-same}
 
 -- ---- the start reads 16 LPC words
-lpc-same : (s t : List ℤ) → Alike 16 s t → startLpc s ≡ startLpc t
+lpc-same : (s t : List ℤ) → Below 16 s t → startLpc s ≡ startLpc t
 unfolding startLpc
-lpc-same s t h = iter-same (copyTurn s) (copyTurn t) 16 (zeros 96) (λ j b l. rw (h .words j b) refl)
+lpc-same s t h = iter-same (copyTurn s) (copyTurn t) 16 (zeros 96) (λ j b l. rw (below-at h j b) refl)
 
-begun-same : (ar2 : List ℤ) (lf diff : ℤ) (s t : List ℤ) (shape : ℤ) (seed n : ℕ) (o : Paths) → Alike 16 s t → begun ar2 lf diff s shape seed n o ≡ begun ar2 lf diff t shape seed n o
+begun-same : (ar2 : List ℤ) (lf diff : ℤ) (s t : List ℤ) (shape : ℤ) (seed n : ℕ) (o : Paths) → Below 16 s t → begun ar2 lf diff s shape seed n o ≡ begun ar2 lf diff t shape seed n o
 unfolding begun
 begun-same ar2 lf diff s t shape seed n o h =
     ap (λ (l : List ℤ). iter (beginTurn ar2 lf diff seed l (startRings shape)) n o) (lpc-same s t h)
@@ -63,9 +63,9 @@ left-same : (g : Given) (w s : ℤ) (prev : ℕ) (lag : ℤ) (words words′ : L
 unfolding leftBy
 left-same g w s prev lag words words′ gain p lpc xq xq′ shp shp′ e a b = (
   record {
-    xq = to-alike (moved-same (g .«nb_subfr» * g .«subfr_length») (4 * g .«subfr_length») a);
-    shp = to-alike (moved-same (g .«nb_subfr» * g .«subfr_length») (4 * g .«subfr_length») b);
-    lpc = to-alike (words-same lpc (g .«subfr_length») 16 e);
+    xq = to-alike (below-less (omega arith) (moved-same (g .«nb_subfr» * g .«subfr_length») (4 * g .«subfr_length») a));
+    shp = to-alike (below-less (omega arith) (moved-same (g .«nb_subfr» * g .«subfr_length») (4 * g .«subfr_length») b));
+    lpc = to-alike (below-less (omega arith) (words-same lpc (g .«subfr_length») 16 e));
     ar2 = refl;
     lf = refl;
     diff = refl;
@@ -100,8 +100,15 @@ module _ (c d : Call) (x y p q : List ℤ) (h : Agree c x p d y q) (r : Ready c 
   paths-is = ap (λ (g : Given). g .nStates) (given-same c d x y p q h)
 
   -- the state's words below 4L
-  history : (s t : List ℤ) → Alike (4 * natZ (c .settings .«subfr_length»)) s t → Below (4 * lengthOf c) s t
-  history s t a = from-alike (rw (settled c .length) a)
+  xq-below : Below (4 * lengthOf c) (c .state .xq) (d .state .xq)
+  xq-below = below-less (omega (arith, settled c .length)) (from-alike (h .state .xq))
+
+  shp-below : Below (4 * lengthOf c) (c .state .«sLTP_shp_Q14») (d .state .«sLTP_shp_Q14»)
+  shp-below = below-less (omega (arith, settled c .length)) (from-alike (h .state .shp))
+
+  -- 16 LPC words
+  lpc-below : Below 16 (c .state .«sLPC_Q14») (d .state .«sLPC_Q14»)
+  lpc-below = below-less (omega arith) (from-alike (h .state .lpc))
 
   -- the paths
   paths-same : startPaths c ≡ startPaths d
@@ -114,10 +121,10 @@ module _ (c d : Call) (x y p q : List ℤ) (h : Agree c x p d y q) (r : Ready c 
         ← h .state .ar2,
         ← h .state .lf,
         ← h .state .diff,
-        ← below-at (history (c .state .«sLTP_shp_Q14») (d .state .«sLTP_shp_Q14») (h .state .shp)) (4 * lengthOf c - 1) (omega (arith, r .sound .long)),
+        ← below-at (shp-below) (4 * lengthOf c - 1) (omega (arith, r .sound .long)),
       )
       (begun-same (c .state .«sAR2_Q14») (c .state .«sLF_AR_shp_Q14») (c .state .«sDiff_shp_Q14») (c .state .«sLPC_Q14») (d .state .«sLPC_Q14»)
-      (word (c .state .«sLTP_shp_Q14») (4 * lengthOf c - 1)) (natZ (c .settings .Seed)) (pathsOf c) (paths (replicate 4 zeroPath) zeroLpcs zeroRings) (h .state .lpc))
+      (word (c .state .«sLTP_shp_Q14») (4 * lengthOf c - 1)) (natZ (c .settings .Seed)) (pathsOf c) (paths (replicate 4 zeroPath) zeroLpcs zeroRings) lpc-below)
 
   start-same : FrameSame (length p) (4 * lengthOf c) (0 * lengthOf c - delayOf c) (start c p) (start d q)
   unfolding start
@@ -130,8 +137,8 @@ module _ (c d : Call) (x y p q : List ℤ) (h : Agree c x p d y q) (r : Ready c 
             record {
               long = refl;
               core = rw paths-same refl;
-              xq = rw b (history (c .state .xq) (d .state .xq) (h .state .xq));
-              shp = rw b (history (c .state .«sLTP_shp_Q14») (d .state .«sLTP_shp_Q14») (h .state .shp));
+              xq = rw b (xq-below);
+              shp = rw b (shp-below);
               out = record { len = h .pulsesLong; eq = refl };
             };
         row = refl;
@@ -205,7 +212,7 @@ module _ (c d : Call) (x y p q : List ℤ) (h : Agree c x p d y q) (r : Ready c 
       let o = flush-same (lengthOf c) (delayOf c) (fitLast (word (c .«Gains_Q16») (countOf c - 1))) (countOf c * lengthOf c) w (t .run) (u .run) two (s .run) in
       rw (ended-c t u s, ended-d u)
       (handed-same (givenOf c) (d .settings .«warping_Q16») (d .settings .«LTP_scale_Q14») (natZ (d .state .lagPrev)) (word (d .pitchL) (countOf c - 1)) (c .state .«sLPC_Q14») (d .state .«sLPC_Q14») (u .«prev_gain_Q16»)
-      (getD (u .run .core .ps .owns) w noPath) (getD (u .run .core .ps .lpcs) w []) _ _ (r .pulses) (from-alike (h .state .lpc)) o)
+      (getD (u .run .core .ps .owns) w noPath) (getD (u .run .core .ps .lpcs) w []) _ _ (r .pulses) lpc-below o)
 
   pub frame-same : (rule : Rule) → DoneSame (lengthOf c) (frame rule c x p) (frame rule d y q)
   frame-same rule = rw (frame-is rule c x p, frame-is rule d y q) (ended-same (run rule c x p) (run rule d y q) (run-same rule))

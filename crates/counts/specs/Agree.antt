@@ -110,3 +110,8 @@ pub record HandsOutSame (l : ℕ) (o u : Outcome) : Type 0 where
 pub record SameOutcome (l : ℕ) (o u : Outcome) : Type 0 where
   pub answer : o .answer ≡ u .answer
   pub handsOut : codeOf (o .answer) ≡ 0 → HandsOutSame l o u
+
+-- ---- later sound
+-- with the decision delay d, samples from t on come too late for the pulse at place i
+abbrev pub Decided : ℕ → ℕ → ℕ → Type 0
+Decided d t i = i + d < t
