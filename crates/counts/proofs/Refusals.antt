@@ -42,7 +42,9 @@ module _ (c d : Call) (x y p q : List ℤ) (h : Agree c x p d y q) where
       rw (← h .«subfr_length», ← h .signalType)
       (either-same (sameZ (c .settings .signalType) (pos 2)) _ _ _ _
       (λ v. ap (someLag (c .settings .«subfr_length»)) (h .lags (is-voiced c v)))
-      (λ v. rw (h .lagPrev (not-voiced c v), h .last) refl))
+      (λ v.
+      ap (λ (z : ℤ). quietLagRefused (c .settings .«subfr_length») z || quietLagRefused (c .settings .«subfr_length») (lastOf (c .pitchL))) (h .lagPrev (not-voiced c v))
+      ∙ ap (λ (z : ℤ). quietLagRefused (c .settings .«subfr_length») (d .state .lagPrev) || quietLagRefused (c .settings .«subfr_length») z) (h .last)))
 
   -- ---- the table, and the answer
   pub answer-same : answered c x p ≡ answered d y q

@@ -43,7 +43,7 @@ RowZeroOnly c = (c .settings .«nb_subfr» ≡ pos 2) × (OneRow c → ⊥)
 abbrev pub NoLag : Call → Type 0
 NoLag c = (Voiced c → ⊥) × (c .state .lagPrev ≡ pos 0)
 
--- ---- the words of a state that count but lagPrev, with L
+-- ---- the words of a state that count but lagPrev, with L. (A state's rows have one length each: they are arrays of 640, 640 and 96 words.)
 pub record StateAgree (l : ℕ) (s t : NsqState) : Type 0 where
   -- history and shaping words below 4L
   pub xq : Alike (4 * l) (s .xq) (t .xq)
