@@ -4,9 +4,10 @@ use Prim.Native.Nat.{ℕ}
 use mathlib.Core.List.{List, [], _∷_}
 use mathlib.Core.Bool.{Bool, true, false, not, _&&_}
 use lib.ListN.{replicate, set}
-use lib.IntN.{ℤ, pos}
+use lib.IntN.{ℤ, pos, negsuc}
 use Rattle.silk.specs.declared.structs.Settings.{Settings}
 use Rattle.silk.specs.declared.structs.NsqState.{NsqState}
+use Rattle.silk.specs.State.{freshState}
 use Rattle.path.specs.Data.{word}
 use Rattle.among.specs.Among.{keepsFirst}
 use Rattle.refusals.specs.Count.{sameZ}
@@ -30,16 +31,16 @@ unfoldable pub differ : List (Call × Call) → Bool
 differ [] = true
 differ (a ∷ l) = not (sameRow (given (a .0) .pulses) (given (a .1) .pulses)) && differ l
 
--- ---- calls with L 40, n 2, prediction order 10, shaping order 2 and one path
--- type, interpolation, warping, LTP scale
-unfoldable pub settings : ℤ → ℤ → ℤ → ℤ → Settings
-settings kind interp warping scale =
+-- ---- calls with L 40, prediction order 10 and shaping order 2
+-- n, path count, type, interpolation, warping, LTP scale
+unfoldable pub settingsOf : ℤ → ℤ → ℤ → ℤ → ℤ → ℤ → Settings
+settingsOf n paths kind interp warping scale =
     record {
       «subfr_length» = pos 40;
-      «nb_subfr» = pos 2;
+      «nb_subfr» = n;
       predictLPCOrder = pos 10;
       shapingLPCOrder = pos 2;
-      nStatesDelayedDecision = pos 1;
+      nStatesDelayedDecision = paths;
       «warping_Q16» = warping;
       signalType = kind;
       quantOffsetType = pos 0;
@@ -48,6 +49,10 @@ settings kind interp warping scale =
       «Lambda_Q10» = pos 0;
       «LTP_scale_Q14» = scale;
     }
+
+-- n 2 and one path
+unfoldable pub settings : ℤ → ℤ → ℤ → ℤ → Settings
+settings kind interp warping scale = settingsOf (pos 2) (pos 1) kind interp warping scale
 
 -- history, shaping words, LPC words, filter words, lagPrev
 unfoldable pub state : List ℤ → List ℤ → List ℤ → List ℤ → ℤ → NsqState
@@ -171,3 +176,33 @@ lastHistory a =
 unfoldable pub lastFilter : ℤ → ℤ
 lastFilter a =
     word (given (call (settings (pos 0) (pos 0) (pos 300) (pos 0)) (state history shapes lpcs (set filter 23 a) (pos 16))) .state .«sAR2_Q14») 23
+
+-- ---- n 4: row 1 of PredCoef counts where interpolation is not 4. The pulses, by PredCoef
+unfoldable pub four : List ℤ → List ℤ
+four pred =
+    outcome keepsFirst
+    (callOf (settingsOf (pos 4) (pos 1) (pos 0) (pos 0) (pos 300) (pos 0)) (after (pos 16)) pred (replicate 20 (pos 2000)) (replicate 96 (pos 500))
+    (replicate 4 (pos 4000)) (replicate 4 (pos 3000)) (replicate 4 (pos 5000)) (replicate 4 (pos 98304)) (replicate 4 (pos 16)))
+    (replicate 160 (pos 5))
+    (replicate 160 (pos 0))
+    .pulses
+
+-- ---- later sound: two paths, voiced, lags 16, so D is 13; and 80 samples
+unfoldable pub tight : Call
+tight =
+    callOf (settingsOf (pos 2) (pos 2) (pos 2) (pos 4) (pos 0) (pos 0)) freshState (replicate 32 (pos 0)) (replicate 10 (pos 0)) (replicate 48 (pos 0)) (each (pos 0))
+    (each (pos 0)) (each (pos 0)) (each (pos 131072)) (each (pos 16))
+
+-- ..
+unfoldable pub tightSamples : List ℤ
+tightSamples =
+    negsuc 3 ∷ pos 2 ∷ negsuc 1 ∷ negsuc 5 ∷ pos 6 ∷ negsuc 5 ∷ pos 0 ∷ pos 8 ∷ pos 4 ∷ negsuc 3 ∷ pos 4 ∷ negsuc 3 ∷ pos 0 ∷ pos 0 ∷ negsuc 3 ∷
+    pos 0 ∷ pos 6 ∷ pos 8 ∷ pos 1 ∷ pos 0 ∷ negsuc 3 ∷ pos 8 ∷ pos 8 ∷ pos 8 ∷ pos 2 ∷ negsuc 1 ∷ negsuc 5 ∷ negsuc 5 ∷ pos 4 ∷ pos 8 ∷
+    negsuc 5 ∷ negsuc 1 ∷ pos 6 ∷ pos 2 ∷ pos 2 ∷ pos 2 ∷ pos 0 ∷ pos 8 ∷ negsuc 3 ∷ negsuc 7 ∷ pos 0 ∷ pos 2 ∷ negsuc 3 ∷ pos 2 ∷ pos 8 ∷
+    pos 6 ∷ pos 0 ∷ pos 0 ∷ negsuc 1 ∷ pos 4 ∷ negsuc 5 ∷ pos 8 ∷ negsuc 1 ∷ negsuc 5 ∷ pos 6 ∷ negsuc 7 ∷ pos 4 ∷ pos 2 ∷ pos 4 ∷ pos 2 ∷
+    pos 8 ∷ pos 0 ∷ pos 4 ∷ pos 2 ∷ negsuc 7 ∷ negsuc 5 ∷ pos 0 ∷ pos 4 ∷ negsuc 3 ∷ pos 0 ∷ negsuc 1 ∷ pos 6 ∷ negsuc 3 ∷ negsuc 1 ∷ negsuc 1 ∷
+    pos 4 ∷ negsuc 7 ∷ negsuc 1 ∷ negsuc 1 ∷ pos 6 ∷ []
+
+-- the pulse at place 18 = 31 - D, by sample 31
+unfoldable pub byLate : ℤ → ℤ
+byLate a = word (outcome keepsFirst tight (set tightSamples 31 a) (replicate 80 (pos 0)) .pulses) 18
