@@ -1,21 +1,21 @@
 -- What comes before the samples of a subframe, in two frames in work that are equal but for the words past a bound: the flush, the rewhitening of the
 -- history and the change of gain. Assumes nothing.
-use Prim.Native.Nat.{ℕ, zero, suc, _+_, _-_, _*_, _<_, _≤_}
+use Prim.Native.Nat.{ℕ, _+_, _-_, _*_, _<_, _≤_}
 use native.Mathlib.Omega.{arith}
 use mathlib.Core.Path.{_≡_, refl, sym, ap, _∙_}
 use mathlib.Core.Bool.{Bool, true, false}
-use mathlib.Core.List.{List, [], _++_}
-use lib.ListN.{getD, length, take, drop}
+use mathlib.Core.List.{List}
+use lib.ListN.{length, take, drop}
 use lib.IntN.{ℤ, pos}
-use Rattle.fixed.specs.Iter.{iter, either}
-use Rattle.fixed.proofs.Iters.{iter-same, iter-rel, either-all, either-rel}
+use Rattle.fixed.specs.Iter.{iter}
+use Rattle.fixed.proofs.Iters.{iter-same, iter-rel, either-rel}
 use Rattle.silk.specs.Gains.{«gain_adj_Q16»}
 use Rattle.silk.specs.Filter.{tap, prediction, filtered, filterTurn, clearTurn, analysis}
 use Rattle.path.specs.declared.structs.Fix.{Fix}
-use Rattle.path.specs.Data.{word, Core, Running}
+use Rattle.path.specs.Data.{word, Running}
 use Rattle.path.specs.Scaled.{scaleTurn, scaledWords}
 use Rattle.fixed.specs.Product.{smulww}
-use Rattle.paths.specs.Scale.{filled, scaled}
+use Rattle.paths.specs.Scale.{scaled}
 use Rattle.refusals.specs.Count.{sameZ}
 use Rattle.frame.specs.Frame.{middleBy, startIdx, rewhitened, rewhitenedAt, refilled, Whitened, whitenedOf, whitened, regained, flushedFirst, whitenedFirst, regainedLast, before}
 use Rattle.counts.proofs.Rows.{Below, below-map, below-part}
@@ -172,7 +172,8 @@ white-first-same rewhite f a b inv inv′ {m} {b1} t u row e i k r =
 
 -- ---- all three, of two frames in work
 before-rel : (R : Whitened → Whitened → Type 0) (again rewhite : Bool) (f : Fix) (a b : List ℤ) (gain1 inv inv′ prev prev′ : ℤ) (t u : Running) (row row′ : List ℤ)
-    → R (regainedLast rewhite f prev (whitenedFirst rewhite f a inv (flushedFirst again f gain1 t) row)) (regainedLast rewhite f prev′ (whitenedFirst rewhite f b inv′ (flushedFirst again f gain1 u) row′))
+    → R (regainedLast rewhite f prev (whitenedFirst rewhite f a inv (flushedFirst again f gain1 t) row))
+    (regainedLast rewhite f prev′ (whitenedFirst rewhite f b inv′ (flushedFirst again f gain1 u) row′))
     → R (before again rewhite f a gain1 inv prev t row) (before again rewhite f b gain1 inv′ prev′ u row′)
 unfolding before
 before-rel R again rewhite f a b gain1 inv inv′ prev prev′ t u row row′ r = r
@@ -209,6 +210,11 @@ before-past again rewhite f a gain1 inv prev prev′ {b} t u row row′ k r =
     let p = flushedFirst again f gain1 t in
     let q = flushedFirst again f gain1 u in
     before-rel (λ (v w : Whitened). Below b (v .run .pulses) (w .run .pulses)) again rewhite f a a gain1 inv inv prev prev′ t u row row′
-    (rw (regained-out f rewhite prev (whitenedFirst rewhite f a inv p row .run), white-out rewhite f a inv p row, regained-out f rewhite prev′ (whitenedFirst rewhite f a inv q row′ .run), white-out rewhite f a inv q row′)
+    (rw (
+      regained-out f rewhite prev (whitenedFirst rewhite f a inv p row .run),
+      white-out rewhite f a inv p row,
+      regained-out f rewhite prev′ (whitenedFirst rewhite f a inv q row′ .run),
+      white-out rewhite f a inv q row′,
+    )
     (flushed-rel (λ (v w : Running). Below b (v .pulses) (w .pulses)) again f gain1 t u
     (λ e. middle-past (f .nStates) (f .«subfr_length») (f .decisionDelay) gain1 t u (k e) r) (λ e. r)))

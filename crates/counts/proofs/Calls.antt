@@ -1,25 +1,25 @@
 -- What two calls that agree in what counts have in common: their counts, each subframe's scalars, and what it reads of its rows. Assumes nothing.
-use Prim.Native.Nat.{ℕ, suc, _+_, _-_, _*_, _/_, _<_, _≤_, min}
+use Prim.Native.Nat.{ℕ, _+_, _*_, _/_, _<_, _≤_}
 use native.Mathlib.Omega.{arith}
 use native.Mathlib.Nat.{zero-mul, zero-add, one-mul}
 use mathlib.Core.Path.{_≡_, refl, sym, ap, _∙_}
-use mathlib.Core.Bool.{Bool, true, false, not}
+use mathlib.Core.Bool.{Bool, true, false}
 use mathlib.Core.List.{List}
 use lib.ListN.{length, take, drop}
 use lib.IntN.{ℤ, pos}
 use lib.Dec.{eqb, ltb}
 use borrow.Author.Tests.{ltb-true, ltb-false, not-true, not-false}
-use Rattle.fixed.specs.Iter.{iter, either}
+use Rattle.fixed.specs.Iter.{either}
 use Rattle.fixed.specs.Wrap.{wrap16}
 use Rattle.silk.specs.Gains.{«inv_gain_Q31», «ltp_scaled_inv_gain»}
 use Rattle.shaping.specs.Harmonic.{packedGain}
-use Rattle.path.specs.Data.{word, Rows}
+use Rattle.path.specs.Data.{word}
 use Rattle.refusals.specs.Count.{natZ, sameZ}
 use Rattle.refusals.proofs.Laws.{same-true}
 use Rattle.frame.specs.declared.call.Given.{Given}
-use Rattle.frame.specs.Call.{Call, voicedBy, interpolatedBy, voicedDelay, quietDelay, delayBy, givenBy, givenOf, lengthOf, countOf, lagBy, lagOf, twiceBy, secondBy, rewhitesBy, sinceBy, rowBy, fixBy, fixOf, halvesBy, rowsBy, rowsOf, whiteBy}
+use Rattle.frame.specs.Call.{Call, voicedBy, interpolatedBy, voicedDelay, quietDelay, delayBy, givenBy, givenOf, countOf, lagBy, lagOf, twiceBy, secondBy, rewhitesBy, sinceBy, rowBy, fixBy, fixOf, halvesBy, rowsBy, rowsOf, whiteBy}
 use Rattle.frame.proofs.Sound.{rewhites-voiced}
-use Rattle.counts.specs.Agree.{Voiced, OneRow, RowZeroOnly, NoLag, Agree}
+use Rattle.counts.specs.Agree.{Voiced, OneRow, RowZeroOnly, Agree}
 use Rattle.counts.proofs.Rows.{either-same, part-word}
 use Rattle.counts.proofs.Refusals.{not-same}
 use Rattle.counts.proofs.Sample.{RowsSame}
@@ -114,7 +114,9 @@ low-scale inv a b e = rw e refl
 -- ---- two calls
 module _ (c d : Call) (x y p q : List ℤ) (h : Agree c x p d y q) where
   -- D
-  delay-same : (l n : ℕ) → delayBy (voicedBy (c .settings .signalType)) l n (natZ (c .state .lagPrev)) (c .pitchL) ≡ delayBy (voicedBy (c .settings .signalType)) l n (natZ (d .state .lagPrev)) (d .pitchL)
+  delay-same : (l n : ℕ)
+      → delayBy (voicedBy (c .settings .signalType)) l n (natZ (c .state .lagPrev)) (c .pitchL)
+      ≡ delayBy (voicedBy (c .settings .signalType)) l n (natZ (d .state .lagPrev)) (d .pitchL)
   unfolding delayBy voicedBy
   delay-same l n =
       either-same (sameZ (c .settings .signalType) (pos 2)) _ _ _ _ (λ v. ap (voicedDelay l n) (h .lags (same-true _ _ v)))
@@ -124,7 +126,19 @@ module _ (c d : Call) (x y p q : List ℤ) (h : Agree c x p d y q) where
   pub given-same : givenOf d ≡ otherOf c d
   unfolding givenBy
   given-same =
-      rw (← h .«subfr_length», ← h .«nb_subfr», ← h .predictLPCOrder, ← h .shapingLPCOrder, ← h .nStatesDelayedDecision, ← h .signalType, ← h .quantOffsetType, ← h .«NLSFInterpCoef_Q2», ← h .Seed, ← h .«Lambda_Q10», ← delay-same (natZ (c .settings .«subfr_length»)) (natZ (c .settings .«nb_subfr»))) refl
+      rw (
+        ← h .«subfr_length»,
+        ← h .«nb_subfr»,
+        ← h .predictLPCOrder,
+        ← h .shapingLPCOrder,
+        ← h .nStatesDelayedDecision,
+        ← h .signalType,
+        ← h .quantOffsetType,
+        ← h .«NLSFInterpCoef_Q2»,
+        ← h .Seed,
+        ← h .«Lambda_Q10»,
+        ← delay-same (natZ (c .settings .«subfr_length»)) (natZ (c .settings .«nb_subfr»)),
+      ) refl
 
   -- the lag of subframe k
   lag-same : (k : ℕ) → lagOf c k ≡ lagBy (otherOf c d) (d .pitchL) k
@@ -144,7 +158,8 @@ module _ (c d : Call) (x y p q : List ℤ) (h : Agree c x p d y q) where
   unfolding whiteBy
   inv-same gain k e =
       either-same (eqb k 0) _ _ _ _
-      (λ z. low-scale («inv_gain_Q31» gain) (givenOf c .«LTP_scale_Q14») (d .settings .«LTP_scale_Q14») (ap wrap16 (settled c .scale) ∙ h .scale (voiced-is c (rewhites-voiced (givenOf c) k e))))
+      (λ z. low-scale («inv_gain_Q31» gain) (givenOf c .«LTP_scale_Q14») (d .settings .«LTP_scale_Q14»)
+      (ap wrap16 (settled c .scale) ∙ h .scale (voiced-is c (rewhites-voiced (givenOf c) k e))))
       (λ z. refl)
 
   -- its prediction coefficients

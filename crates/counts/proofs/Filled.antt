@@ -7,7 +7,7 @@ use lib.ListN.{length}
 use lib.IntN.{ℤ}
 use Rattle.silk.specs.declared.structs.NsqState.{NsqState}
 use Rattle.frame.specs.Call.{Call, callOf}
-use Rattle.counts.specs.Agree.{Alike, LowAlike, StateAgree, Agree}
+use Rattle.counts.specs.Agree.{Alike, StateAgree, Agree}
 
 -- a state with other positions and another flag
 abbrev pub unread : NsqState → ℤ → ℤ → ℤ → NsqState

@@ -1,15 +1,15 @@
 -- The flushes, in two frames in work that are equal but for the words past a bound: they close the gap of the delay. Assumes nothing.
-use Prim.Native.Nat.{ℕ, zero, suc, _+_, _-_, _*_, _%_, _<_, _≤_}
+use Prim.Native.Nat.{ℕ, suc, _+_, _-_, _*_, _%_, _<_, _≤_}
 use native.Mathlib.Omega.{arith}
-use mathlib.Core.Path.{_≡_, refl, sym, ap, _∙_}
+use mathlib.Core.Path.{_≡_, refl, ap, _∙_}
 use mathlib.Core.List.{List, []}
 use lib.ListN.{getD, set, length, length-set}
 use lib.IntN.{ℤ}
 use Rattle.fixed.proofs.Iters.{iter-rel}
 use Rattle.shaping.specs.Output.{pulseOf}
-use Rattle.path.specs.Data.{word, Core, Running, ringQ, ringXq, ringShape}
+use Rattle.path.specs.Data.{word, Running, ringQ, ringXq, ringShape}
 use Rattle.frame.specs.Flush.{bestOf, fitMiddle, Outs, flushAt, flushTurn, flushed}
-use Rattle.frame.specs.Frame.{outsOf, flushedRun, afterMiddle, middleBy}
+use Rattle.frame.specs.Frame.{outsOf, flushedRun, middleBy}
 use Rattle.counts.proofs.Rows.{Below, below-grow, below-past}
 use Rattle.counts.proofs.Subframe.{Same}
 

@@ -1,20 +1,16 @@
 -- A frame taken apart, for two calls side by side: its start, its subframes, its end. Assumes nothing.
-use Prim.Native.Nat.{ℕ, suc, _+_, _-_, _*_, _<_}
-use mathlib.Core.Path.{_≡_, refl, sym, ap, _∙_, subst}
-use mathlib.Core.Bool.{Bool, true, false}
-use mathlib.Core.List.{List, []}
-use lib.ListN.{getD}
+use Prim.Native.Nat.{ℕ, suc, _<_}
+use mathlib.Core.Path.{_≡_, refl, subst}
+use mathlib.Core.List.{List}
 use lib.IntN.{ℤ}
 use Rattle.fixed.specs.Iter.{iter}
 use Rattle.fixed.proofs.Iters.{iter-rel}
-use Rattle.path.specs.declared.structs.Fix.{Fix}
-use Rattle.path.specs.declared.structs.Path.{Path}
-use Rattle.path.specs.Data.{word, noPath, Rows}
+use Rattle.path.specs.Data.{word}
 use Rattle.among.specs.Among.{Rule}
 use Rattle.frame.specs.declared.call.Given.{Given}
-use Rattle.frame.specs.Call.{Call, givenOf, countOf, secondBy, rewhitesBy, fixBy, rowsBy, whiteBy}
-use Rattle.frame.specs.Flush.{bestOf, fitLast, Outs}
-use Rattle.frame.specs.Frame.{Framed, start, flushedRun, step, priorBy, turnBy, subframeTurn, run, Done, endedWith, endedBy, ended, frame}
+use Rattle.frame.specs.Call.{Call, countOf, secondBy, rewhitesBy, fixBy, rowsBy, whiteBy}
+use Rattle.frame.specs.Flush.{bestOf}
+use Rattle.frame.specs.Frame.{Framed, start, step, priorBy, turnBy, subframeTurn, run, endedWith, endedBy, ended, frame}
 
 -- subframe k
 pub turn-is : (rule : Rule) (g : Given) (x pred ltp ar tilt harm lf gains lags : List ℤ) (k : ℕ) (t : Framed)

@@ -7,9 +7,8 @@ use mathlib.Core.Bool.{Bool, true, false, _&&_}
 use mathlib.Core.List.{List}
 use lib.IntN.{ℤ}
 use lib.Dec.{eqb, leb}
-use borrow.Author.Tests.{eqb-true, eqb-false, ne-eqb, leb-true, leb-false}
+use borrow.Author.Tests.{eqb-true, eqb-false, ne-eqb, leb-true}
 use Rattle.fixed.specs.Iter.{either}
-use Rattle.path.specs.declared.structs.Fix.{Fix}
 use Rattle.frame.specs.declared.call.Given.{Given}
 use Rattle.frame.specs.Call.{lagBy, twiceBy, secondBy, rewhitesBy, sinceBy, fixBy, Sound}
 use Rattle.counts.proofs.Subframe.{bound, Behind}

@@ -4,16 +4,15 @@ use native.Mathlib.Omega.{arith}
 use mathlib.Core.Path.{_≡_, refl, sym, ap, _∙_, subst}
 use mathlib.Core.Bool.{Bool, true, false}
 use mathlib.Core.List.{List}
-use lib.ListN.{set}
 use lib.Dec.{leb}
 use borrow.Author.Tests.{leb-true, leb-false}
-use lib.IntN.{ℤ, pos}
+use lib.IntN.{ℤ}
 use Rattle.shaping.specs.Output.{pulseOf}
 use Rattle.path.specs.declared.structs.Fix.{Fix}
 use Rattle.path.specs.Data.{word, Running, Rows}
 use Rattle.among.specs.Among.{Rule}
 use Rattle.paths.specs.Subframe.{took, leaves, emit, put, turn, moveBack, subframe}
-use Rattle.frame.specs.Frame.{Framed, framedOf, Whitened, coded, step}
+use Rattle.frame.specs.Frame.{Framed, Whitened, coded, step}
 use Rattle.counts.proofs.Rows.{Below, below-refl, below-past}
 use Rattle.counts.proofs.Sample.{rows-refl}
 use Rattle.counts.proofs.Subframe.{took-same, wrote, turn-is, moved-back, subframe-rel}

@@ -1,18 +1,15 @@
 -- What comes from sample t on changes no pulse below t less the delay: the subframes of a call, and its end. Assumes nothing.
-use Prim.Native.Nat.{ℕ, suc, _+_, _-_, _*_, _<_, _≤_}
+use Prim.Native.Nat.{ℕ, suc, _+_, _-_, _*_, _<_}
 use native.Mathlib.Omega.{arith}
 use native.Mathlib.Nat.{suc-mul}
-use mathlib.Core.Path.{_≡_, refl, sym, ap, _∙_}
-use mathlib.Core.Bool.{Bool, true, false}
+use mathlib.Core.Path.{_≡_, refl, ap}
 use mathlib.Core.List.{List}
 use lib.IntN.{ℤ}
-use lib.Dec.{eqb}
 use Rattle.path.specs.Data.{word}
 use Rattle.among.specs.Among.{Rule}
-use Rattle.frame.specs.declared.call.Given.{Given}
-use Rattle.frame.specs.Call.{Call, givenOf, lengthOf, countOf, delayOf, secondBy, rewhitesBy, fixBy, fixOf, rowsBy, rowsOf, whiteBy, whiteGain, Sound}
+use Rattle.frame.specs.Call.{Call, givenOf, lengthOf, countOf, delayOf, secondBy, rewhitesBy, fixBy, fixOf, rowsOf, whiteGain, Sound}
 use Rattle.frame.specs.Flush.{bestOf, fitLast}
-use Rattle.frame.specs.Frame.{Framed, start, flushedRun, step, subframeTurn, run, Done, ended, frame}
+use Rattle.frame.specs.Frame.{Framed, step, subframeTurn, run, Done, ended, frame}
 use Rattle.frame.proofs.Sound.{second-is}
 use Rattle.counts.proofs.Rows.{Below, below-refl}
 use Rattle.counts.proofs.Flush.{flush-past}

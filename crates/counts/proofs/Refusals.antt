@@ -1,16 +1,12 @@
 -- Calls that agree in what counts get the same number, whatever it is. Assumes nothing.
-use Prim.Native.Nat.{ℕ, _-_, _<_}
+use Prim.Native.Nat.{ℕ}
 use native.Mathlib.Omega.{arith}
 use mathlib.Core.Path.{_≡_, refl, sym, ap, _∙_}
-use mathlib.Core.Bool.{Bool, true, false, _||_}
+use mathlib.Core.Bool.{true, false, _||_}
 use mathlib.Core.List.{List}
-use lib.ListN.{length}
 use lib.IntN.{ℤ, pos}
-use Rattle.fixed.specs.Iter.{either}
-use Rattle.silk.specs.declared.structs.Settings.{Settings}
-use Rattle.refusals.specs.declared.answer.Sizes.{Sizes}
-use Rattle.refusals.specs.Count.{natZ, sameZ}
-use Rattle.refusals.specs.Table.{lengthsRefused, ordersRefused, pathsRefused, kindsRefused, rowsRefused, gainsRefused, quietLagRefused, someLag, lastOf, lagsRefused, table, answerOf}
+use Rattle.refusals.specs.Count.{sameZ}
+use Rattle.refusals.specs.Table.{quietLagRefused, someLag, lastOf, lagsRefused, table, answerOf}
 use Rattle.refusals.proofs.Laws.{same-true, same-refl}
 use Rattle.frame.specs.Call.{Call}
 use Rattle.nsq.specs.Entry.{sizesOf, answered}
@@ -50,4 +46,19 @@ module _ (c d : Call) (x y p q : List ℤ) (h : Agree c x p d y q) where
   pub answer-same : answered c x p ≡ answered d y q
   unfolding answered answerOf table
   answer-same =
-      rw (sizes-same, lags-same, h .«subfr_length», h .«nb_subfr», h .predictLPCOrder, h .shapingLPCOrder, h .nStatesDelayedDecision, h .signalType, h .quantOffsetType, h .«NLSFInterpCoef_Q2», h .Seed, h .gains, h .state .gain, h .lagsLong) refl
+      rw (
+        sizes-same,
+        lags-same,
+        h .«subfr_length»,
+        h .«nb_subfr»,
+        h .predictLPCOrder,
+        h .shapingLPCOrder,
+        h .nStatesDelayedDecision,
+        h .signalType,
+        h .quantOffsetType,
+        h .«NLSFInterpCoef_Q2»,
+        h .Seed,
+        h .gains,
+        h .state .gain,
+        h .lagsLong,
+      ) refl

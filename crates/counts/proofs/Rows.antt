@@ -10,7 +10,7 @@ use lib.Seq.{take-set-lt, take-set-le, take-suc-set, take-all, take-take, getD-t
 use lib.Dec.{ltb}
 use borrow.Author.Tests.{ltb-true, ltb-false}
 use lib.IntN.{ℤ, pos}
-use Rattle.fixed.specs.Iter.{iter, either}
+use Rattle.fixed.specs.Iter.{either}
 use Rattle.path.specs.Data.{word}
 use Rattle.counts.specs.Agree.{Alike}
 

@@ -1,15 +1,15 @@
 -- A sample reads the first coefficients of its rows up to the order, the first shaping slots up to the shaping order, and the low 16 bits of warping
 -- and tilt. Assumes nothing.
-use Prim.Native.Nat.{ℕ, zero, suc, _+_, _-_, _/_, _<_, _≤_}
+use Prim.Native.Nat.{ℕ, _+_, _-_, _/_, _<_, _≤_}
 use native.Mathlib.Omega.{arith}
-use mathlib.Core.Path.{_≡_, refl, sym, ap, _∙_}
-use mathlib.Core.Bool.{Bool, true, false}
+use mathlib.Core.Path.{_≡_, refl, ap, _∙_}
+use mathlib.Core.Bool.{true}
 use mathlib.Core.List.{List, []}
 use lib.ListN.{getD, replicate}
 use lib.IntN.{ℤ, pos}
 use lib.Dec.{eqb}
 use borrow.Author.Tests.{eqb-true}
-use Rattle.fixed.specs.Iter.{iter, either}
+use Rattle.fixed.specs.Iter.{iter}
 use Rattle.fixed.specs.Wrap.{wrap16}
 use Rattle.fixed.proofs.Iters.{iter-same, either-all}
 use Rattle.shaping.specs.Taps.{tap, tapCount, shortPrediction}
@@ -17,7 +17,6 @@ use Rattle.shaping.specs.WarpedFilter.{Filter, write, turn, begin, warpedFilter
 use Rattle.shaping.specs.NoiseTerms.{arTerm}
 use Rattle.path.specs.declared.structs.Path.{Path}
 use Rattle.path.specs.declared.structs.Fix.{Fix}
-use Rattle.path.specs.declared.structs.Halves.{Halves}
 use Rattle.path.specs.declared.structs.Common.{Common}
 use Rattle.path.specs.declared.structs.Moves.{Moves}
 use Rattle.path.specs.Data.{word, noPath, noCandidate, Paths, paths, Rows}

@@ -1,11 +1,11 @@
 -- A whole subframe, in two frames in work that are equal but for the words past a bound. Assumes nothing.
-use Prim.Native.Nat.{ℕ, _+_, _-_, _*_, _<_, _≤_}
-use mathlib.Core.Path.{_≡_, refl, sym, ap, _∙_}
-use mathlib.Core.Bool.{Bool, true, false}
+use Prim.Native.Nat.{ℕ, _*_}
+use mathlib.Core.Path.{_≡_, refl}
+use mathlib.Core.Bool.{Bool, true}
 use mathlib.Core.List.{List}
 use lib.IntN.{ℤ}
 use Rattle.path.specs.declared.structs.Fix.{Fix}
-use Rattle.path.specs.Data.{Running, Rows}
+use Rattle.path.specs.Data.{Rows}
 use Rattle.among.specs.Among.{Rule}
 use Rattle.paths.specs.Subframe.{subframe}
 use Rattle.frame.specs.Frame.{Framed, framedOf, Whitened, before, coded, step}

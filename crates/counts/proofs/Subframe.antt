@@ -1,18 +1,17 @@
 -- The samples of a subframe, in two frames in work that are equal but for the words of three rows past a bound. Each step keeps that, and moves the
 -- bound: every read falls below it. Assumes nothing.
-use Prim.Native.Nat.{ℕ, zero, suc, _+_, _-_, _*_, _<_, _≤_}
+use Prim.Native.Nat.{ℕ, suc, _+_, _-_, _*_, _<_, _≤_}
 use native.Mathlib.Omega.{arith}
 use native.Mathlib.Nat.{zero-add}
-use mathlib.Core.Path.{_≡_, refl, sym, ap, _∙_}
+use mathlib.Core.Path.{_≡_, refl, ap, _∙_}
 use mathlib.Core.Bool.{Bool, true, false}
 use mathlib.Core.List.{List}
-use lib.ListN.{getD, set, length, length-set}
+use lib.ListN.{length, length-set}
 use lib.Dec.{ltb, leb}
 use borrow.Author.Tests.{ltb-true, leb-true, leb-false}
-use lib.IntN.{ℤ, pos}
-use Rattle.fixed.specs.Iter.{iter, either}
+use lib.IntN.{ℤ}
+use Rattle.fixed.specs.Iter.{either}
 use Rattle.fixed.proofs.Iters.{iter-rel}
-use Rattle.shaping.specs.Taps.{longPrediction}
 use Rattle.shaping.specs.Harmonic.{shapedLag, ltpTerm}
 use Rattle.shaping.specs.Output.{pulseOf, xqOut}
 use Rattle.path.specs.declared.structs.Fix.{Fix}

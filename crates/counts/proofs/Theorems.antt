@@ -1,8 +1,8 @@
 -- Demand 3, of the definition that demand 2's contracts cite: what doesn't count can't matter, and later sound can't change earlier pulses.
 -- For every rule of replacement, the Rust's and any other. Assumes nothing.
-use Prim.Native.Nat.{ℕ, _+_, _-_, _<_}
+use Prim.Native.Nat.{ℕ, _-_, _<_}
 use native.Mathlib.Omega.{arith}
-use mathlib.Core.Path.{_≡_, refl, sym, ap, _∙_, subst}
+use mathlib.Core.Path.{_≡_, refl, sym, ap, _∙_}
 use mathlib.Core.Bool.{Bool, true, false}
 use mathlib.Core.List.{List}
 use lib.ListN.{length}
@@ -19,7 +19,7 @@ use Rattle.nsq.proofs.Outcomes.{accepted-by, refused-by}
 use Rattle.counts.specs.Agree.{Alike, Agree, HandsOutSame, SameOutcome, Decided}
 use Rattle.counts.proofs.Rows.{Below, below-refl, below-at}
 use Rattle.counts.proofs.Refusals.{answer-same}
-use Rattle.counts.proofs.Accepted.{Ready, ready}
+use Rattle.counts.proofs.Accepted.{ready}
 use Rattle.counts.proofs.PrefixFrame.{frame-pre}
 use Rattle.counts.proofs.Calls.{settled}
 use Rattle.counts.proofs.Whole.{frame-same}

@@ -3,7 +3,6 @@ use Prim.Native.Nat.{ℕ, suc, _+_, _-_, _*_, _<_, _≤_}
 use native.Mathlib.Omega.{arith}
 use native.Mathlib.Nat.{suc-mul, mul-le-mul-right}
 use mathlib.Core.Path.{_≡_, refl, sym, ap, _∙_}
-use mathlib.Core.Bool.{Bool, true, false}
 use mathlib.Core.List.{List, []}
 use lib.ListN.{getD, length, replicate}
 use lib.IntN.{ℤ}
@@ -11,7 +10,6 @@ use lib.Dec.{eqb}
 use Rattle.fixed.specs.Iter.{iter}
 use Rattle.fixed.proofs.Iters.{iter-same, iter-rel}
 use Rattle.silk.specs.State.{zeros}
-use Rattle.silk.specs.declared.structs.NsqState.{NsqState}
 use Rattle.path.specs.declared.structs.Path.{Path}
 use Rattle.path.specs.Data.{word, noPath, Paths, paths}
 use Rattle.among.specs.Among.{Rule}
@@ -21,10 +19,10 @@ use Rattle.frame.specs.declared.call.Given.{Given}
 use Rattle.frame.specs.Call.{Call, givenOf, lengthOf, countOf, pathsOf, delayOf, secondBy, rewhitesBy, sinceBy, fixBy, fixOf, rowsBy, rowsOf, whiteBy}
 use Rattle.frame.specs.Begin.{zeroPath, zeroLpcs, zeroRings, copyTurn, startLpc, startRings, beginTurn, begun}
 use Rattle.frame.specs.Flush.{bestOf, fitLast, Outs}
-use Rattle.frame.specs.Frame.{Framed, startPaths, start, flushedRun, step, turnBy, subframeTurn, run, downTurn, movedDown, wordsTurn, wordsFrom, Done, leftBy, handedOut, endedBy, ended, frame}
+use Rattle.frame.specs.Frame.{Framed, startPaths, start, flushedRun, step, subframeTurn, run, downTurn, movedDown, wordsTurn, wordsFrom, Done, leftBy, handedOut, endedBy, ended, frame}
 use Rattle.counts.specs.Agree.{StateAgree, Agree}
 use Rattle.counts.proofs.Rows.{Below, below-at, below-less, below-set, below-all, from-alike, to-alike}
-use Rattle.counts.proofs.Subframe.{Same, bound}
+use Rattle.counts.proofs.Subframe.{bound}
 use Rattle.counts.proofs.Flush.{OutsSame, flush-same}
 use Rattle.counts.proofs.Step.{FrameSame, step-same}
 use Rattle.counts.proofs.Place.{stands, behind, ends}
@@ -81,7 +79,8 @@ pub record DoneSame (l : ℕ) (e u : Done) : Type 0 where
   pub state : StateAgree l (e .state) (u .state)
   pub lagPrev : e .state .lagPrev ≡ u .state .lagPrev
 
-handed-same : (g : Given) (w s : ℤ) (prev : ℕ) (lag : ℤ) (words words′ : List ℤ) (gain : ℤ) (p : Path) (lpc : List ℤ) {m : ℕ} (o u : Outs) → m ≡ g .«nb_subfr» * g .«subfr_length»
+handed-same : (g : Given) (w s : ℤ) (prev : ℕ) (lag : ℤ) (words words′ : List ℤ) (gain : ℤ) (p : Path) (lpc : List ℤ) {m : ℕ} (o u : Outs)
+    → m ≡ g .«nb_subfr» * g .«subfr_length»
     → Below 16 words words′ → OutsSame m (4 * g .«subfr_length») (g .«nb_subfr» * g .«subfr_length») o u
     → DoneSame (g .«subfr_length») (handedOut g lag words gain p lpc o) (handedOut (other g w s prev) lag words′ gain p lpc u)
 handed-same g w s prev lag words words′ gain p lpc o u k e a =
@@ -149,7 +148,8 @@ module _ (c d : Call) (x y p q : List ℤ) (h : Agree c x p d y q) (r : Ready c 
   step-by : (rule : Rule) (k : ℕ) → k < countOf c → (t u : Framed) → FrameSame (length p) (4 * lengthOf c) (k * lengthOf c - delayOf c) t u
       → FrameSame (length p) (4 * lengthOf c) (bound (eqb (sinceBy (givenOf c) k) 0) (k * lengthOf c) (delayOf c) (lengthOf c))
       (step rule (fixOf c k) (rowsOf c k) x (secondBy (givenOf c) k) (rewhitesBy (givenOf c) k) (word (c .«Gains_Q16») 1) (whiteBy (givenOf c) (word (c .«Gains_Q16») k) k) t)
-      (step rule (fixOf c k) (rowsBy (otherOf c d) (d .«PredCoef_Q12») (d .«LTPCoef_Q14») (d .«AR_Q13») (d .«Tilt_Q14») (d .«HarmShapeGain_Q14») k) x (secondBy (givenOf c) k) (rewhitesBy (givenOf c) k) (word (c .«Gains_Q16») 1) (whiteBy (otherOf c d) (word (c .«Gains_Q16») k) k) u)
+      (step rule (fixOf c k) (rowsBy (otherOf c d) (d .«PredCoef_Q12») (d .«LTPCoef_Q14») (d .«AR_Q13») (d .«Tilt_Q14») (d .«HarmShapeGain_Q14») k) x
+      (secondBy (givenOf c) k) (rewhitesBy (givenOf c) k) (word (c .«Gains_Q16») 1) (whiteBy (otherOf c d) (word (c .«Gains_Q16») k) k) u)
   unfolding fixBy
   step-by rule k b t u s =
       step-same rule (fixOf c k) (rowsOf c k) _ (rows-same c d x y p q h r k b) (behind (givenOf c) (c .pitchL) (c .«LF_shp_Q14») (c .«Gains_Q16») k (r .sound) (r .early k b)) x

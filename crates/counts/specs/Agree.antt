@@ -8,7 +8,6 @@ use lib.IntN.{ℤ, pos}
 use Rattle.fixed.specs.Wrap.{wrap16}
 use Rattle.silk.specs.declared.structs.NsqState.{NsqState}
 use Rattle.path.specs.Data.{word}
-use Rattle.refusals.specs.declared.answer.Answer.{Answer}
 use Rattle.refusals.specs.Code.{codeOf}
 use Rattle.refusals.specs.Count.{natZ}
 use Rattle.refusals.specs.Table.{lastOf}

@@ -1,6 +1,5 @@
 -- Pairs of calls that differ in one word: the neighbour, which does count, of a thing that doesn't. Their outcomes are proved to differ
 -- (proofs/Neighbours.antt), so no item of `Agree` (crate `counts`) that is next to one of the list could be left out. Assumes nothing.
-use Prim.Native.Nat.{ℕ}
 use mathlib.Core.List.{List, [], _∷_}
 use mathlib.Core.Bool.{Bool, true, false, not, _&&_}
 use lib.ListN.{replicate, set}
