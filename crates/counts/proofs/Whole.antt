@@ -113,14 +113,15 @@ module _ (c d : Call) (x y p q : List ℤ) (h : Agree c x p d y q) (r : Ready c 
   paths-same : startPaths c ≡ startPaths d
   unfolding startPaths
   paths-same =
+      let filter : c .state .«sAR2_Q14» ≡ d .state .«sAR2_Q14» = h .state .ar2 in
       rw (
         length-is,
         paths-is,
         ← h .Seed,
-        ← h .state .ar2,
+        ← filter,
         ← h .state .lf,
         ← h .state .diff,
-        ← below-at (shp-below) (4 * lengthOf c - 1) (omega (arith, r .sound .long)),
+        ← below-at shp-below (4 * lengthOf c - 1) (omega (arith, r .sound .long)),
       )
       (begun-same (c .state .«sAR2_Q14») (c .state .«sLF_AR_shp_Q14») (c .state .«sDiff_shp_Q14») (c .state .«sLPC_Q14») (d .state .«sLPC_Q14»)
       (word (c .state .«sLTP_shp_Q14») (4 * lengthOf c - 1)) (natZ (c .settings .Seed)) (pathsOf c) (paths (replicate 4 zeroPath) zeroLpcs zeroRings) lpc-below)

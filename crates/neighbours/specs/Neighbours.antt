@@ -53,22 +53,26 @@ settingsOf n paths kind interp warping scale =
 unfoldable pub settings : ℤ → ℤ → ℤ → ℤ → Settings
 settings kind interp warping scale = settingsOf (pos 2) (pos 1) kind interp warping scale
 
--- history, shaping words, LPC words, filter words, lagPrev
-unfoldable pub state : List ℤ → List ℤ → List ℤ → List ℤ → ℤ → NsqState
-state xq shp lpc ar2 lag =
+-- sLF_AR_shp_Q14, sDiff_shp_Q14, prev_gain_Q16, then history, shaping words, LPC words, filter words, lagPrev
+unfoldable pub stateOf : ℤ → ℤ → ℤ → List ℤ → List ℤ → List ℤ → List ℤ → ℤ → NsqState
+stateOf lf diff gain xq shp lpc ar2 lag =
     record {
       xq = xq;
       «sLTP_shp_Q14» = shp;
       «sLPC_Q14» = lpc;
       «sAR2_Q14» = ar2;
-      «sLF_AR_shp_Q14» = pos 20000;
-      «sDiff_shp_Q14» = pos 20000;
+      «sLF_AR_shp_Q14» = lf;
+      «sDiff_shp_Q14» = diff;
       lagPrev = lag;
       «sLTP_buf_idx» = pos 0;
       «sLTP_shp_buf_idx» = pos 0;
-      «prev_gain_Q16» = pos 65536;
+      «prev_gain_Q16» = gain;
       «rewhite_flag» = pos 0;
     }
+
+-- with three scalars as they are in most calls below
+unfoldable pub state : List ℤ → List ℤ → List ℤ → List ℤ → ℤ → NsqState
+state xq shp lpc ar2 lag = stateOf (pos 20000) (pos 20000) (pos 65536) xq shp lpc ar2 lag
 
 -- the rows of the state
 unfoldable pub history : List ℤ
@@ -159,6 +163,10 @@ pairs =
     -- shaping word 4L - 1, LPC word 15
     ∷ (quiet, call (settings (pos 0) (pos 0) (pos 300) (pos 0)) (state history (set shapes 159 (pos 90000)) lpcs filter (pos 16)))
     ∷ (quiet, call (settings (pos 0) (pos 0) (pos 300) (pos 0)) (state history shapes (set lpcs 15 (pos 900000)) filter (pos 16)))
+    -- sLF_AR_shp_Q14, sDiff_shp_Q14, prev_gain_Q16
+    ∷ (quiet, call (settings (pos 0) (pos 0) (pos 300) (pos 0)) (stateOf (pos 200000) (pos 20000) (pos 65536) history shapes lpcs filter (pos 16)))
+    ∷ (shaped quiet, shaped (call (settings (pos 0) (pos 0) (pos 300) (pos 0)) (stateOf (pos 20000) (pos 200000) (pos 65536) history shapes lpcs filter (pos 16))))
+    ∷ (quiet, call (settings (pos 0) (pos 0) (pos 300) (pos 0)) (stateOf (pos 20000) (pos 20000) (pos 300000) history shapes lpcs filter (pos 16)))
     ∷ []
 
 -- ---- words of the state that is handed out, with one word of the call changed
