@@ -1,7 +1,9 @@
-// Replays whole calls that the Rust has answered: the stored list is on standard input, in the form of tests/rust/README.md, and for
-// each call its answer, seed, pulses and two digests of its state are printed.
+// Replays whole calls that the Rust has answered: 54 that tell the right quantiser from wrong variants of it, refusals of every
+// number among them, 40 of which each starts from the state that the one before left, and document 01's examples. The list is on
+// standard input; for each call its answer, seed, pulses and two digests of its state are printed.
 //
-// The file `stdout` was not made by this program: the Rust printed it (tests/rust/README.md says how to repeat it).
+// The file `stdout` was not made by this program: the Rust printed it. To repeat that: tools/oracle, then
+// target/oracle/oracle stream --digest < crates/nsq_replay/stdin.
 mod digest;
 mod print;
 mod rows;
