@@ -1,6 +1,6 @@
 -- The conditions of `Agree` can be met, by calls that differ: whatever the pulse row held and the two positions and the flag of the state.
 -- Assumes nothing.
-use Prim.Native.Nat.{ℕ, _*_}
+use Prim.Native.Nat.{ℕ}
 use mathlib.Core.Path.{_≡_, refl}
 use mathlib.Core.List.{List}
 use lib.ListN.{length}
@@ -38,9 +38,9 @@ row-refl m s = record { long = refl; words = λ i h. refl }
 state-refl : (l : ℕ) (s : NsqState) (buf shp flag : ℤ) → StateAgree l s (unread s buf shp flag)
 state-refl l s buf shp flag =
     record {
-      xq = row-refl (4 * l) (s .xq);
-      shp = row-refl (4 * l) (s .«sLTP_shp_Q14»);
-      lpc = row-refl 16 (s .«sLPC_Q14»);
+      xq = row-refl _ (s .xq);
+      shp = row-refl _ (s .«sLTP_shp_Q14»);
+      lpc = row-refl _ (s .«sLPC_Q14»);
       ar2 = refl;
       lf = refl;
       diff = refl;

@@ -71,21 +71,25 @@ pulse-turn h ring ring′ fit last last′ p o u k q =
     rw (put-at h ring fit last p o .out, put-at h ring′ fit last′ p u .out) (below-past q p _ _ k)
 
 -- ---- the flush of a frame in work
+flushed-is : (l d : ℕ) (fit : ℤ → ℤ) (g w : ℕ) (t : Running)
+    → flushedRun l d fit g w t ≡ flushed (4 * l) (getD (t .core .ps .rings) w []) fit d g (t .core .«smpl_buf_idx») (outsOf t)
+unfolding flushedRun
+flushed-is l d fit g w t = refl
+
 pub flush-same : (l d : ℕ) (fit : ℤ → ℤ) (g w : ℕ) {m : ℕ} (t u : Running) → d ≤ g → Same m (4 * l) (g - d) t u
     → OutsSame m (4 * l) g (flushedRun l d fit g w t) (flushedRun l d fit g w u)
-unfolding flushedRun
 flush-same l d fit g w {m} t u k r =
-    rw (r .core)
+    rw (flushed-is l d fit g w t, flushed-is l d fit g w u, r .core)
     (outs-same (4 * l) (getD (u .core .ps .rings) w []) fit d g (u .core .«smpl_buf_idx») (outsOf t) (outsOf u) k
     (record { long = r .long; xq = r .xq; shp = r .shp; out = r .out }))
 
 pub flush-past : (l d : ℕ) (fit : ℤ → ℤ) (g w z : ℕ) {b : ℕ} (t u : Running) → b ≤ g - d → Below b (t .pulses) (u .pulses)
     → Below b (flushedRun l d fit g w t .pulses) (flushedRun l d fit g z u .pulses)
-unfolding flushedRun
 flush-past l d fit g w z {b} t u k r =
-    flushed-rel (λ i (o p : Outs). Below b (o .pulses) (p .pulses)) (4 * l) (getD (t .core .ps .rings) w []) (getD (u .core .ps .rings) z []) fit d g
+    rw (flushed-is l d fit g w t, flushed-is l d fit g z u)
+    (flushed-rel (λ i (o p : Outs). Below b (o .pulses) (p .pulses)) (4 * l) (getD (t .core .ps .rings) w []) (getD (u .core .ps .rings) z []) fit d g
     (t .core .«smpl_buf_idx») (u .core .«smpl_buf_idx»)
-    (λ i h o p q. pulse-turn (4 * l) _ _ fit _ _ (g - d + i) o p (omega arith) q) (outsOf t) (outsOf u) r
+    (λ i h o p q. pulse-turn (4 * l) _ _ fit _ _ (g - d + i) o p (omega arith) q) (outsOf t) (outsOf u) r)
 
 -- ---- the flush in the middle: its rows, and paths that follow from the paths
 pub record Middle (n l d : ℕ) (gain : ℤ) (t u : Running) : Type 0 where
