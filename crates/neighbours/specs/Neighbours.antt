@@ -78,15 +78,19 @@ state xq shp lpc ar2 lag = stateOf (pos 20000) (pos 20000) (pos 65536) xq shp lp
 unfoldable pub history : List ℤ
 history = replicate 640 (pos 9)
 
+-- ..
 unfoldable pub shapes : List ℤ
 shapes = set (replicate 640 (pos 30000)) 150 (pos 900000)
 
+-- ..
 unfoldable pub lpcs : List ℤ
 lpcs = replicate 96 (pos 40000)
 
+-- ..
 unfoldable pub filter : List ℤ
 filter = replicate 24 (pos 30000)
 
+-- ..
 unfoldable pub after : ℤ → NsqState
 after lag = state history shapes lpcs filter lag
 
@@ -94,12 +98,15 @@ after lag = state history shapes lpcs filter lag
 unfoldable pub preds : List ℤ
 preds = replicate 32 (pos 100)
 
+-- ..
 unfoldable pub ltps : List ℤ
 ltps = replicate 10 (pos 2000)
 
+-- ..
 unfoldable pub ars : List ℤ
 ars = replicate 48 (pos 500)
 
+-- ..
 unfoldable pub each : ℤ → List ℤ
 each a = a ∷ a ∷ []
 
@@ -107,12 +114,15 @@ each a = a ∷ a ∷ []
 unfoldable pub call : Settings → NsqState → Call
 call s st = callOf s st preds ltps ars (each (pos 4000)) (each (pos 3000)) (each (pos 5000)) (each (pos 98304)) (each (pos 16))
 
+-- ..
 unfoldable pub quiet : Call
 quiet = call (settings (pos 0) (pos 0) (pos 300) (pos 0)) (after (pos 16))
 
+-- ..
 unfoldable pub one : Call
 one = call (settings (pos 0) (pos 4) (pos 300) (pos 0)) (after (pos 16))
 
+-- ..
 unfoldable pub voiced : Call
 voiced = call (settings (pos 2) (pos 0) (pos 300) (pos 16000)) (after (pos 16))
 
@@ -120,18 +130,23 @@ voiced = call (settings (pos 2) (pos 0) (pos 300) (pos 16000)) (after (pos 16))
 unfoldable pub withPred : Call → List ℤ → Call
 withPred c r = callOf (c .settings) (c .state) r (c .«LTPCoef_Q14») (c .«AR_Q13») (c .«HarmShapeGain_Q14») (c .«Tilt_Q14») (c .«LF_shp_Q14») (c .«Gains_Q16») (c .pitchL)
 
+-- ..
 unfoldable pub withLtp : Call → List ℤ → Call
 withLtp c r = callOf (c .settings) (c .state) (c .«PredCoef_Q12») r (c .«AR_Q13») (c .«HarmShapeGain_Q14») (c .«Tilt_Q14») (c .«LF_shp_Q14») (c .«Gains_Q16») (c .pitchL)
 
+-- ..
 unfoldable pub withAr : Call → List ℤ → Call
 withAr c r = callOf (c .settings) (c .state) (c .«PredCoef_Q12») (c .«LTPCoef_Q14») r (c .«HarmShapeGain_Q14») (c .«Tilt_Q14») (c .«LF_shp_Q14») (c .«Gains_Q16») (c .pitchL)
 
+-- ..
 unfoldable pub withHarm : Call → List ℤ → Call
 withHarm c r = callOf (c .settings) (c .state) (c .«PredCoef_Q12») (c .«LTPCoef_Q14») (c .«AR_Q13») r (c .«Tilt_Q14») (c .«LF_shp_Q14») (c .«Gains_Q16») (c .pitchL)
 
+-- ..
 unfoldable pub withTilt : Call → List ℤ → Call
 withTilt c r = callOf (c .settings) (c .state) (c .«PredCoef_Q12») (c .«LTPCoef_Q14») (c .«AR_Q13») (c .«HarmShapeGain_Q14») r (c .«LF_shp_Q14») (c .«Gains_Q16») (c .pitchL)
 
+-- ..
 unfoldable pub withLags : Call → List ℤ → Call
 withLags c r = callOf (c .settings) (c .state) (c .«PredCoef_Q12») (c .«LTPCoef_Q14») (c .«AR_Q13») (c .«HarmShapeGain_Q14») (c .«Tilt_Q14») (c .«LF_shp_Q14») (c .«Gains_Q16») r
 
