@@ -19,9 +19,9 @@ use Rattle.calls.specs.Call.{Call}
 use Rattle.frame.specs.Frame.{frame}
 use Rattle.nsq.specs.Entry.{Outcome, answered, taken, untouched, outcome, outcomeBy}
 use Rattle.nsq.proofs.Outcomes.{refused-by}
-use Rattle.nsq_c.specs.Layout.{settingsOf, stateOf, scalarsOf, wordsOf}
+use Rattle.plain_rows.specs.Layout.{settingsOf, stateOf, scalarsOf, wordsOf}
 use Rattle.nsq_c.specs.Rows.{Left, leftOf, stateFits, stateless, laid, called}
-use Rattle.nsq_c.proofs.Laid.{joined}
+use Rattle.plain_rows.proofs.Laid.{joined}
 
 -- ---- a state, laid and read
 -- word k of what lies behind n others

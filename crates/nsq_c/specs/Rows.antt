@@ -15,7 +15,7 @@ use Rattle.refusals.specs.Code.{codeOf}
 use Rattle.limits.specs.Tests.{lengthsRefused, ordersRefused, pathsRefused, kindsRefused}
 use Rattle.calls.specs.Call.{Call, callOf}
 use Rattle.nsq.specs.Entry.{Outcome, outcome}
-use Rattle.nsq_c.specs.Layout.{settingsOf, stateOf, wordsOf}
+use Rattle.plain_rows.specs.Layout.{settingsOf, stateOf, wordsOf}
 
 -- ---- a fresh state
 -- what `nsq_fresh` leaves: its number and the two rows

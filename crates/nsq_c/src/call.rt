@@ -9,9 +9,9 @@ ghost use Rattle.among.specs.Among.{keepsFirst};
 ghost use Rattle.nsq.specs.Entry.{outcomeOf, outcome};
 ghost use Rattle.nsq_c.specs.Rows.{leftOf, laid, called, callIn};
 use crate::answers;
-use crate::layout;
 use nsq::entry;
 use nsq::entry::Answered;
+use plain_rows::layout;
 use refusals::answer::Answer;
 use silk::structs::Settings;
 

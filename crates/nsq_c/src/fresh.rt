@@ -2,7 +2,7 @@
 ghost use denote.Ref.{now};
 ghost use mathlib.Core.Path.{_≡_};
 ghost use Rattle.nsq_c.specs.Rows.{freshlyOf, freshened};
-use crate::layout;
+use plain_rows::layout;
 use silk::structs::NsqState;
 
 // Makes the two rows a fresh state and returns 0; or returns 5, and leaves both, where one has another length.

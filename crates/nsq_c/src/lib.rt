@@ -2,6 +2,4 @@
 // (include/nsq.h). Neither asks anything of its caller: a row of another length is answered, not read.
 mod answers;
 pub mod call;
-mod copies;
 pub mod fresh;
-mod layout;

@@ -1,13 +1,13 @@
--- `nsq_c::layout::lay_words` meets its contract. Assumes nothing.
+-- `plain_rows::layout::lay_words` meets its contract. Assumes nothing.
 use mathlib.Core.Path.{_≡_, sym, ap, _∙_}
 use native.Mathlib.Omega.{arith}
 use lib.ListN.{length, length-take}
 use borrow.Author.Needs.{needs}
 use denote.Ref.{now}
-use Rattle.nsq_c.specs.Layout.{wordsOf}
-use Rattle.nsq_c.proofs.Laid.{laid-words}
-use Rattle.nsq_c.proofs.layout.lay_words.Statement.{statement}
-use Rattle.nsq_c.proofs.layout.lay_words.Tie as tie
+use Rattle.plain_rows.specs.Layout.{wordsOf}
+use Rattle.plain_rows.proofs.Laid.{laid-words}
+use Rattle.plain_rows.proofs.layout.lay_words.Statement.{statement}
+use Rattle.plain_rows.proofs.layout.lay_words.Tie as tie
 
 scalars-of-requires : tie.Need-scalars-of-requires
 scalars-of-requires c κs = search needs

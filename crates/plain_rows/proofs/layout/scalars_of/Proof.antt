@@ -1,10 +1,10 @@
--- `nsq_c::layout::scalars_of` meets its contract. Assumes nothing.
+-- `plain_rows::layout::scalars_of` meets its contract. Assumes nothing.
 use borrow.Author.Needs.{needs}
 use mir.Syntax.{w32}
 use Rattle.fixed.proofs.Fit.{back}
-use Rattle.nsq_c.specs.Layout.{scalarsOf}
-use Rattle.nsq_c.proofs.layout.scalars_of.Statement.{statement}
-use Rattle.nsq_c.proofs.layout.scalars_of.Tie as tie
+use Rattle.plain_rows.specs.Layout.{scalarsOf}
+use Rattle.plain_rows.proofs.layout.scalars_of.Statement.{statement}
+use Rattle.plain_rows.proofs.layout.scalars_of.Tie as tie
 
 returns : tie.Need-returns
 unfolding scalarsOf

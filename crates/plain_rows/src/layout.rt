@@ -2,7 +2,7 @@
 ghost use denote.Ref.{now};
 ghost use mathlib.Core.Path.{_≡_};
 ghost use lib.ListN.{length};
-ghost use Rattle.nsq_c.specs.Layout.{settingsOf, stateOf, scalarsOf, wordsOf};
+ghost use Rattle.plain_rows.specs.Layout.{settingsOf, stateOf, scalarsOf, wordsOf};
 use crate::copies;
 use silk::structs::NsqState;
 use silk::structs::Settings;

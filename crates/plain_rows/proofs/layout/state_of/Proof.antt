@@ -1,4 +1,4 @@
--- `nsq_c::layout::state_of` meets its contract. Assumes nothing.
+-- `plain_rows::layout::state_of` meets its contract. Assumes nothing.
 use mathlib.Core.Path.{_≡_}
 use Prim.Native.Nat.{ℕ, _<_, _^_}
 use borrow.Author.Needs.{needs}
@@ -8,9 +8,9 @@ use mir.Syntax.{w32}
 use mir.Val.{toZ, ofZ}
 use Rattle.fixed.proofs.Fit.{back}
 use Rattle.path.specs.Data.{word}
-use Rattle.nsq_c.specs.Layout.{stateOf}
-use Rattle.nsq_c.proofs.layout.state_of.Statement.{statement}
-use Rattle.nsq_c.proofs.layout.state_of.Tie as tie
+use Rattle.plain_rows.specs.Layout.{stateOf}
+use Rattle.plain_rows.proofs.layout.state_of.Statement.{statement}
+use Rattle.plain_rows.proofs.layout.state_of.Tie as tie
 
 fresh-requires : tie.Need-fresh-requires
 fresh-requires c κs = search needs
