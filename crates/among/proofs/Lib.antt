@@ -1,3 +1,2 @@
--- Ties: of paths that cost the same the lowest is found. Unique: each contract leaves one outcome.
-pub mod Ties
+-- Unique: each contract leaves one outcome.
 pub mod Unique

@@ -3,21 +3,9 @@
 use mathlib.Core.Path.{_≡_, sym, _∙_, ap}
 use denote.Ref.{now}
 use Rattle.path.specs.Data.{Paths}
-use Rattle.among.proofs.winner.least.Reads as least
-use Rattle.among.proofs.winner.worst_first.Reads as worst-first
-use Rattle.among.proofs.penalty.penalised.Reads as penalised
 use Rattle.among.proofs.replacement.swap_of.Reads as swap-of
 use Rattle.among.proofs.replacement.replaced.Reads as replaced
 use Rattle.among.proofs.replacement.moved_over.Reads as moved-over
-
-pub least-unique : (κs a r s e : _) → least.Post κs a r e → least.Post κs a s e → r ≡ s
-least-unique κs a r s e p q = p .0 ∙ sym (q .0)
-
-pub worst-first-unique : (κs a r s e : _) → worst-first.Post κs a r e → worst-first.Post κs a s e → r ≡ s
-worst-first-unique κs a r s e p q = p .0 ∙ sym (q .0)
-
-pub penalised-unique : (κs a r s e : _) → penalised.Post κs a r e → penalised.Post κs a s e → r ≡ s
-penalised-unique κs a r s e p q = p ∙ sym q
 
 pub swap-of-unique : (κs a r s e : _) → swap-of.Post κs a r e → swap-of.Post κs a s e → r ≡ s
 swap-of-unique κs a r s e p q = p .0 ∙ sym (q .0)

@@ -1,5 +1,3 @@
-// The choice among up to four paths at one sample: the winner, the penalty and the replacement
+// The replacement of a path by another at one sample, after the winner and the penalties
 // (`silk_noise_shape_quantizer_del_dec` of NSQ_del_dec.rs).
-pub mod penalty;
 pub mod replacement;
-pub mod winner;

@@ -3,18 +3,18 @@ ghost use mathlib.Core.Path.{_≡_};
 ghost use Prim.Native.Nat.{_<_, _≤_};
 ghost use Rattle.path.specs.Data.{paths};
 ghost use Rattle.among.specs.Among.{swapOf, keepsFirst, replaced as replacedZ, movedOver};
-use crate::winner;
 use path::structs::Candidate;
 use path::structs::Path;
 use path::structs::Swap;
+use winner::search;
 
 // Which path is replaced by which, if any: only by a strictly cheaper candidate.
 pub fn swap_of(c: [[Candidate; 2]; 4], n: usize) -> Swap
     requires { ⌜ (0 < n) × (n ≤ 4) ⌝ }
     ensures { λ r. ⌜ (r ≡ swapOf c n) × ((r .to < n) × (r .by < n)) ⌝ }
 {
-    let to = winner::worst_first(c, n);
-    let by = winner::least(c, 1, n);
+    let to = search::worst_first(c, n);
+    let by = search::least(c, 1, n);
     let worst = c[to][0];
     let least = c[by][1];
     Swap {

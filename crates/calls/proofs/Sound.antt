@@ -14,7 +14,7 @@ use borrow.Author.Tests.{eqb-true, eqb-false, le-leb}
 use Rattle.fixed.proofs.Iters.{iter-keeps, iter-inv, either-all}
 use Rattle.silk.specs.declared.structs.Settings.{Settings}
 use Rattle.path.specs.Data.{word}
-use Rattle.paths.specs.Subframe.{Fits}
+use Rattle.places.specs.Places.{Fits}
 use Rattle.limits.specs.Count.{natZ, sameZ}
 use Rattle.refusals.specs.declared.answer.Sizes.{Sizes}
 use Rattle.refusals.specs.Good.{GoodOrder, QuietLag, GoodSettings, GoodLags, Good}

@@ -13,8 +13,8 @@ use Rattle.fixed.specs.Iter.{iter, either}
 use Rattle.silk.specs.declared.structs.Settings.{Settings}
 use Rattle.silk.specs.declared.structs.NsqState.{NsqState}
 use Rattle.silk.specs.Gains.{«inv_gain_Q31», «inv_gain_Q26», «ltp_scaled_inv_gain»}
-use Rattle.choice.specs.Offset.{offsetOf}
-use Rattle.shaping.specs.Harmonic.{packedGain}
+use Rattle.residuals.specs.Offset.{offsetOf}
+use Rattle.harmonic.specs.Harmonic.{packedGain}
 use Rattle.path.specs.declared.structs.Fix.{Fix}
 use Rattle.path.specs.declared.structs.Halves.{Halves}
 use Rattle.path.specs.Data.{word, Rows, rows}

@@ -5,11 +5,11 @@ ghost use Prim.Native.Nat.{_≤_, _<_, min};
 ghost use lib.ListN.{length};
 ghost use Rattle.limits.specs.Count.{natZ};
 ghost use Rattle.calls.specs.Call.{voicedBy, interpolatedBy, lowered as loweredN, voicedDelay, quietDelay, delayBy, givenBy, lagBy, twiceBy, secondBy, rewhitesBy, sinceBy, rowBy, fixBy, halvesBy, whiteBy};
-use choice::offset;
+use harmonic::terms;
 use limits::count;
 use path::structs::Fix;
 use path::structs::Halves;
-use shaping::harmonic;
+use residuals::offset;
 use silk::gains;
 use silk::structs::Settings;
 
@@ -232,7 +232,7 @@ pub fn halves_of(g: Given, tilt: &[i32], harm: &[i32], k: usize) -> Halves
     Halves {
         warping_Q16: g.warping_Q16,
         Tilt_Q14: t,
-        HarmShapeFIRPacked_Q14: harmonic::harm_shape_packed(h),
+        HarmShapeFIRPacked_Q14: terms::harm_shape_packed(h),
     }
 }
 

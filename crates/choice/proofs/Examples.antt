@@ -8,9 +8,10 @@ use Rattle.fixed.specs.Shift.{shr, shl32, shr32}
 use Rattle.products.specs.Product.{smulbb, smlabb}
 use Rattle.choice.specs.declared.candidate.Choice.{Choice}
 use Rattle.fixed.specs.Range.{clamp}
-use Rattle.choice.specs.Residual.{turned, signedResidual}
+use Rattle.residuals.specs.Residual.{turned, signedResidual}
 use Rattle.choice.specs.RuleChoice.{levelOf, rounded, lowerOf, costSum, costOf, between, ruled}
-use Rattle.choice.specs.RustChoice.{biased, «q1_Q0», above, atZero, atMinusOne, below, tried, withNoise, ordered, costed, choice}
+use Rattle.choice.specs.RustChoice.{withNoise, ordered, costed, choice}
+use Rattle.levels.specs.Levels.{biased, «q1_Q0», above, atZero, atMinusOne, below, tried}
 
 -- a row of the table
 pub record Example : Type 0 where

@@ -1,4 +1,3 @@
-pub mod Laws
 pub mod Unique
 pub mod Examples
 pub mod Toward
@@ -8,3 +7,4 @@ pub mod Rule
 pub mod Rfc
 pub mod Bounds
 pub mod Table
+pub mod Chosen

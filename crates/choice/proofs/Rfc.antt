@@ -17,8 +17,8 @@ use Rattle.products.specs.Generator.{rand}
 use Rattle.fixed.proofs.Lin.{P, N, eq-of, add-lin, sub-lin-Z, neg-lin, shr-lin, mod-lin, le-lin, le-of-lin, sfits-of-lin}
 use Rattle.fixed.proofs.Wraps.{turns, wrap-lin, wrap32-id, wrap32-fits}
 use Rattle.rfc6716.specs.Excitation.{«offset_Q23», sign, value, nextSeed, negates, signed, seedAfter, Row, pulse}
-use Rattle.choice.specs.Offset.{offsetOf}
-use Rattle.choice.specs.Residual.{turned, signedExcitation, pulseOf, seedWith}
+use Rattle.residuals.specs.Offset.{offsetOf}
+use Rattle.residuals.specs.Residual.{turned, signedExcitation, pulseOf, seedWith}
 use Rattle.choice.specs.RuleChoice.{lean, levelOf}
 use Rattle.choice.proofs.Near.{times-lin, level-lin}
 

@@ -15,8 +15,9 @@ use Rattle.fixed.proofs.Lin.{P, N, eq-of, add-lin, sub-lin-Z}
 use Rattle.fixed.proofs.Wraps.{wrap32-id, wrap16-id}
 use Rattle.fixed.proofs.Fit.{fit16-32}
 use Rattle.fixed.proofs.Iters.{either-rel}
-use Rattle.choice.specs.declared.level.Pair.{Pair}
-use Rattle.choice.specs.RustChoice.{biased, «q1_Q0», above, atZero, atMinusOne, below, tried, withNoise, costed, choice}
+use Rattle.levels.specs.declared.level.Pair.{Pair}
+use Rattle.choice.specs.RustChoice.{withNoise, costed, choice}
+use Rattle.levels.specs.Levels.{biased, «q1_Q0», above, atZero, atMinusOne, below, tried}
 use Rattle.choice.specs.RuleChoice.{levelOf, rounded, lowerOf, costSum, costOf, between, ruled}
 use Rattle.choice.specs.Ranges.{InRange, BranchFits, LevelFits, PulseFits}
 use Rattle.choice.proofs.Near.{span-lin, times-lin, level-lin, lean-above, lean-down}

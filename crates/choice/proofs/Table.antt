@@ -11,8 +11,8 @@ use Rattle.fixed.specs.Range.{clamp}
 use Rattle.fixed.proofs.Lin.{P, N, le-of-lin, lt-false}
 use Rattle.fixed.proofs.Iters.{either-all}
 use Rattle.rfc6716.specs.Excitation.{«offset_Q23», value}
-use Rattle.choice.specs.Offset.{offsetOf}
-use Rattle.choice.specs.Residual.{turned, signedResidual, pulseOf}
+use Rattle.residuals.specs.Offset.{offsetOf}
+use Rattle.residuals.specs.Residual.{turned, signedResidual, pulseOf}
 use Rattle.choice.specs.RustChoice.{choice}
 use Rattle.choice.specs.RuleChoice.{levelOf, lowerOf, ruled}
 use Rattle.choice.specs.Ranges.{InRange, NothingWraps, Neighbours, Costs}

@@ -1,5 +1,3 @@
-pub mod Offset
-pub mod Residual
 pub mod RustChoice
 pub mod RuleChoice
 pub mod Ranges

@@ -9,7 +9,7 @@ use mir.Syntax.{w16, w32}
 use mir.Val.{SFits}
 use Rattle.fixed.specs.Wrap.{wrap16}
 use Rattle.choice.specs.declared.candidate.Choice.{Choice}
-use Rattle.choice.specs.Residual.{pulseOf}
+use Rattle.residuals.specs.Residual.{pulseOf}
 use Rattle.choice.specs.RuleChoice.{levelOf, lowerOf, costSum}
 
 -- a residual after its clamp, and an offset from the least to the greatest of the table

@@ -2,9 +2,9 @@
 ghost use mathlib.Core.Path.{_≡_};
 ghost use Rattle.choice.specs.RustChoice.{ordered as orderedZ, choice};
 use crate::cost;
-use crate::level;
-use crate::lower;
 use fixed::wrap;
+use levels::level;
+use levels::lower;
 
 // Two levels, each with its own cost; all numbers are in Q10.
 pub struct Choice {

@@ -15,7 +15,7 @@ use Rattle.path.specs.declared.structs.Fix.{Fix}
 use Rattle.path.specs.Data.{word, Running}
 use Rattle.path.specs.Scaled.{scaleTurn, scaledWords}
 use Rattle.products.specs.Product.{smulww}
-use Rattle.paths.specs.Scale.{scaled}
+use Rattle.scaling.specs.Scale.{scaled}
 use Rattle.limits.specs.Count.{sameZ}
 use Rattle.frame.specs.Frame.{middleBy, startIdx, rewhitened, rewhitenedAt, refilled, Whitened, whitenedOf, whitened, regained, flushedFirst, whitenedFirst, regainedLast, before}
 use Rattle.counts.proofs.Rows.{Below, below-map, below-part}

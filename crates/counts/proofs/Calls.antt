@@ -12,7 +12,7 @@ use borrow.Author.Tests.{ltb-true, ltb-false, not-true, not-false}
 use Rattle.fixed.specs.Iter.{either}
 use Rattle.fixed.specs.Wrap.{wrap16}
 use Rattle.silk.specs.Gains.{«inv_gain_Q31», «ltp_scaled_inv_gain»}
-use Rattle.shaping.specs.Harmonic.{packedGain}
+use Rattle.harmonic.specs.Harmonic.{packedGain}
 use Rattle.path.specs.Data.{word}
 use Rattle.limits.specs.Count.{natZ, sameZ}
 use Rattle.limits.proofs.Laws.{same-true}

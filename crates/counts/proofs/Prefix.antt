@@ -11,7 +11,9 @@ use Rattle.shaping.specs.Output.{pulseOf}
 use Rattle.path.specs.declared.structs.Fix.{Fix}
 use Rattle.path.specs.Data.{word, Running, Rows}
 use Rattle.among.specs.Among.{Rule}
-use Rattle.paths.specs.Subframe.{took, leaves, emit, put, turn, moveBack, subframe}
+use Rattle.paths.specs.Subframe.{moveBack, subframe}
+use Rattle.turns.specs.Turn.{took, put, turn}
+use Rattle.leaving.specs.Leaving.{leaves, emit}
 use Rattle.frame.specs.Frame.{Framed, Whitened, coded, step}
 use Rattle.counts.proofs.Rows.{Below, below-refl, below-past}
 use Rattle.counts.proofs.Sample.{rows-refl}

@@ -12,14 +12,18 @@ use borrow.Author.Tests.{ltb-true, leb-true, leb-false}
 use lib.IntN.{ℤ}
 use Rattle.fixed.specs.Iter.{either}
 use Rattle.fixed.proofs.Iters.{iter-rel}
-use Rattle.shaping.specs.Harmonic.{shapedLag, ltpTerm}
+use Rattle.harmonic.specs.Harmonic.{shapedLag, ltpTerm}
 use Rattle.shaping.specs.Output.{pulseOf, xqOut}
 use Rattle.path.specs.declared.structs.Fix.{Fix}
 use Rattle.path.specs.declared.structs.Common.{Common}
 use Rattle.path.specs.Data.{word, Paths, Core, Running, Rows}
 use Rattle.among.specs.Among.{Rule}
 use Rattle.samples.specs.Settled.{Settled}
-use Rattle.paths.specs.Subframe.{down, predicted, harmonic, common, delayed, tookFrom, took, leaves, emit, putAt, put, turn, moveBack, subframe}
+use Rattle.paths.specs.Subframe.{moveBack, subframe}
+use Rattle.turns.specs.Turn.{tookFrom, took, putAt, put, turn}
+use Rattle.leaving.specs.Leaving.{leaves, emit}
+use Rattle.shared.specs.Shared.{predicted, harmonic, common}
+use Rattle.places.specs.Places.{down, delayed}
 use Rattle.counts.proofs.Rows.{either-same, Below, below-at, below-less, below-grow}
 use Rattle.counts.proofs.Sample.{RowsSame, sample-same}
 

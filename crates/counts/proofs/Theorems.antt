@@ -14,7 +14,8 @@ use Rattle.among.specs.Among.{Rule}
 use Rattle.refusals.specs.Code.{codeOf}
 use Rattle.limits.specs.Count.{natZ}
 use Rattle.calls.specs.Call.{Call, delayOf}
-use Rattle.nsq.specs.Entry.{Outcome, sizesOf, answered, outcomeBy, outcome}
+use Rattle.nsq.specs.Entry.{Outcome, answered, outcomeBy, outcome}
+use Rattle.calls.specs.Sizes.{sizesOf}
 use Rattle.nsq.proofs.Outcomes.{accepted-by, refused-by}
 use Rattle.counts.specs.Agree.{Alike, Agree, HandsOutSame, SameOutcome, Decided}
 use Rattle.counts.proofs.Rows.{Below, below-refl, below-at}

@@ -1,3 +1,1 @@
-pub mod Begin
 pub mod Flush
-pub mod Tail

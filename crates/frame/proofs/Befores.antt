@@ -8,7 +8,7 @@ use Rattle.fixed.specs.Iter.{either}
 use Rattle.path.specs.declared.structs.Fix.{Fix}
 use Rattle.path.specs.declared.structs.Work.{Work}
 use Rattle.path.specs.Data.{Running, running}
-use Rattle.paths.specs.Scale.{filled}
+use Rattle.scaling.specs.Scale.{filled}
 use Rattle.frame.specs.Frame.{rewhitenedAt, refilled, Whitened, whitenedOf, whitened, whitenedFirst, flushedFirst, regained, regainedLast, before}
 
 -- the work row after the rewhitening

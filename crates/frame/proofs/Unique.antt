@@ -8,16 +8,16 @@ use Rattle.frame.proofs.step.step.Reads as step
 use Rattle.frame.proofs.turn.turn.Reads as turn
 
 -- the code's struct of a frame in work
-abbrev frameOf : Framed → Frame
+abbrev pub frameOf : Framed → Frame
 frameOf t =
     record { work = record { ps = t .run .core .ps .owns; «smpl_buf_idx» = t .run .core .«smpl_buf_idx» }; sLTP = t .sLTP; prev = t .«prev_gain_Q16» }
 
 -- two frames in work that are equal have equal parts
-own-parts : {t u : Framed} → t ≡ u →
+pub own-parts : {t u : Framed} → t ≡ u →
     (frameOf t ≡ frameOf u) × (t .run .core .ps .lpcs ≡ u .run .core .ps .lpcs) × (t .run .core .ps .rings ≡ u .run .core .ps .rings)
 own-parts e = (ap frameOf e, ap (λ (t : Framed). t .run .core .ps .lpcs) e, ap (λ (t : Framed). t .run .core .ps .rings) e)
 
-row-parts : {t u : Framed} → t ≡ u →
+pub row-parts : {t u : Framed} → t ≡ u →
     ((t .run .core .«sLTP_Q15» ≡ u .run .core .«sLTP_Q15») × (t .run .core .«delayedGain_Q10» ≡ u .run .core .«delayedGain_Q10»)) ×
     (t .run .xq ≡ u .run .xq) × (t .run .«sLTP_shp_Q14» ≡ u .run .«sLTP_shp_Q14») × (t .run .pulses ≡ u .run .pulses)
 row-parts e =

@@ -14,14 +14,14 @@ use Rattle.path.specs.declared.structs.Fix.{Fix}
 use Rattle.path.specs.Data.{word, noPath, Paths, paths, Core, Running, Rows}
 use Rattle.among.specs.Among.{Rule}
 use Rattle.paths.specs.Subframe.{subframe}
-use Rattle.paths.specs.Scale.{filled, scaled}
+use Rattle.scaling.specs.Scale.{filled, scaled}
 use Rattle.limits.specs.Count.{natZ, sameZ}
 use Rattle.calls.specs.declared.call.Given.{Given}
 use Rattle.frame.specs.declared.step.Prior.{Prior}
 use Rattle.calls.specs.Call.{Call, givenOf, lengthOf, countOf, pathsOf, sinceBy, secondBy, rewhitesBy, fixBy, rowsBy, whiteBy}
-use Rattle.edges.specs.Begin.{zeroPath, zeroLpcs, zeroRings, begun}
+use Rattle.beginning.specs.Begin.{zeroPath, zeroLpcs, zeroRings, begun}
 use Rattle.edges.specs.Flush.{bestOf, fitMiddle, fitLast, Outs, flushed, othersRaised}
-use Rattle.edges.specs.Tail.{movedDown, wordsFrom}
+use Rattle.tails.specs.Tail.{movedDown, wordsFrom}
 
 -- a frame in work: what a subframe works on, the filtered history, and the gain of the subframe before
 pub record Framed : Type 0 where

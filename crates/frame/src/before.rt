@@ -6,7 +6,7 @@ ghost use lib.ListN.{length};
 ghost use lib.IntN.{ℤ, pos};
 ghost use lib.Signed.{_≤ℤ_};
 ghost use Rattle.path.specs.Data.{running};
-ghost use Rattle.paths.specs.Subframe.{Fits};
+ghost use Rattle.places.specs.Places.{Fits};
 ghost use Rattle.calls.specs.Call.{Room};
 ghost use Rattle.frame.specs.Frame.{whitenedOf, before as beforeZ};
 use crate::middle;

@@ -5,7 +5,7 @@ ghost use lib.ListN.{length};
 ghost use mathlib.Core.List.{List};
 ghost use lib.IntN.{ℤ};
 ghost use Rattle.path.specs.Data.{running};
-ghost use Rattle.paths.specs.Subframe.{Fits};
+ghost use Rattle.places.specs.Places.{Fits};
 ghost use Rattle.frame.specs.Frame.{middleBy, flushedFirst};
 use edges::ends;
 use path::structs::Fix;

@@ -4,11 +4,11 @@ ghost use mathlib.Core.List.{List};
 ghost use lib.IntN.{ℤ, pos};
 ghost use lib.Signed.{_≤ℤ_};
 ghost use Rattle.path.specs.Data.{running};
-ghost use Rattle.paths.specs.Subframe.{Fits};
+ghost use Rattle.places.specs.Places.{Fits};
 ghost use Rattle.frame.specs.Frame.{regained as regainedZ};
 use path::structs::Fix;
 use path::structs::Work;
-use paths::scale;
+use scaling::scale;
 use silk::gains;
 
 // The paths, the work row and the shaping words at the subframe's gain; `prev` is the gain before.

@@ -7,7 +7,7 @@ ghost use lib.IntN.{pos};
 ghost use lib.Signed.{_≤ℤ_};
 ghost use Rattle.path.specs.Data.{rows, running};
 ghost use Rattle.among.specs.Among.{keepsFirst};
-ghost use Rattle.paths.specs.Subframe.{Fits};
+ghost use Rattle.places.specs.Places.{Fits};
 ghost use Rattle.calls.specs.Call.{Sound, Stocked, Room};
 ghost use Rattle.frame.specs.Frame.{framedOf, stepBy, priorBy, turnBy};
 use crate::step;

@@ -2,14 +2,14 @@
 ghost use mathlib.Core.Path.{_≡_};
 ghost use Prim.Native.Nat.{_+_, _-_, _*_, _<_, _≤_};
 ghost use Rattle.fixed.specs.Iter.{either};
-ghost use Rattle.paths.specs.Scale.{filled};
-ghost use Rattle.paths.specs.Subframe.{Fits};
+ghost use Rattle.scaling.specs.Scale.{filled};
+ghost use Rattle.places.specs.Places.{Fits};
 ghost use lib.ListN.{length};
 ghost use Rattle.calls.specs.Call.{Room};
 ghost use Rattle.frame.specs.Frame.{rewhitened as rewhitenedZ, rewhitenedAt};
 use analysis::lpc_analysis_filter;
 use path::structs::Fix;
-use paths::scale;
+use scaling::scale;
 
 // The history from `from` on, m words, filtered into the row from `start` on; the words before stay.
 fn rewhitened(

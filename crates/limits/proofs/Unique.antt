@@ -3,7 +3,6 @@
 use mathlib.Core.Path.{_≡_, _∙_, sym}
 use Rattle.limits.proofs.count.count.Reads as count
 use Rattle.limits.proofs.gains.gains_refused.Reads as gains-refused
-use Rattle.limits.proofs.lags.lags_refused.Reads as lags-refused
 use Rattle.limits.proofs.settings.lengths_refused.Reads as lengths-refused
 use Rattle.limits.proofs.settings.orders_refused.Reads as orders-refused
 use Rattle.limits.proofs.settings.paths_refused.Reads as paths-refused
@@ -14,9 +13,6 @@ count-unique κs a r s e p q = p ∙ sym q
 
 pub gains-refused-unique : (κs a r s e : _) → gains-refused.Post κs a r e → gains-refused.Post κs a s e → r ≡ s
 gains-refused-unique κs a r s e p q = p ∙ sym q
-
-pub lags-refused-unique : (κs a r s e : _) → lags-refused.Post κs a r e → lags-refused.Post κs a s e → r ≡ s
-lags-refused-unique κs a r s e p q = p ∙ sym q
 
 pub lengths-refused-unique : (κs a r s e : _) → lengths-refused.Post κs a r e → lengths-refused.Post κs a s e → r ≡ s
 lengths-refused-unique κs a r s e p q = p ∙ sym q

@@ -2,5 +2,4 @@
 // 01, "What a call is given" and "Which number comes back". Every number has its answer.
 pub mod count;
 pub mod gains;
-pub mod lags;
 pub mod settings;

@@ -18,29 +18,37 @@ use Rattle.silk.specs.State.{zeros, freshLag, freshState}
 use Rattle.shaping.specs.Taps.{shortPrediction, longPrediction}
 use Rattle.warped.specs.WarpedFilter.{warpedFilter}
 use Rattle.shaping.specs.NoiseTerms.{arTerm, lfTerm}
-use Rattle.shaping.specs.Harmonic.{packedGain, shapedLag, ltpTerm}
+use Rattle.harmonic.specs.Harmonic.{packedGain, shapedLag, ltpTerm}
 use Rattle.shaping.specs.Residual.{predicted, residual}
 use Rattle.shaping.specs.Output.{pulseOf, xqOut}
-use Rattle.choice.specs.Offset.{offsetOf}
-use Rattle.choice.specs.Residual.{turned, signedResidual, signedExcitation, pulseOf as pulseOf-choice, seedWith}
-use Rattle.choice.specs.RustChoice.{biased, «q1_Q0», above, atZero, atMinusOne, below, tried, withNoise, ordered, costed, choice}
+use Rattle.residuals.specs.Offset.{offsetOf}
+use Rattle.residuals.specs.Residual.{turned, signedResidual, signedExcitation, pulseOf as pulseOf-choice, seedWith}
+use Rattle.choice.specs.RustChoice.{withNoise, ordered, costed, choice}
+use Rattle.levels.specs.Levels.{biased, «q1_Q0», above, atZero, atMinusOne, below, tried}
 use Rattle.path.specs.Path.{moved, candidateOf, termsOf, residualOf, pairFrom, pairOf, pair}
 use Rattle.path.specs.Taken.{raised, takenOwn, takenRings, taken}
 use Rattle.path.specs.Scaled.{scaledWords, scaledOwn, scaledPath}
-use Rattle.among.specs.Among.{leastOf, worstOf, sameWord, raisedUnless, penalised, swapOf, keepsFirst, copied, replaced, movedOver}
+use Rattle.among.specs.Among.{swapOf, keepsFirst, copied, replaced, movedOver}
+use Rattle.penalty.specs.Penalty.{sameWord, raisedUnless, penalised}
+use Rattle.winner.specs.Winner.{leastOf, worstOf}
 use Rattle.samples.specs.Each.{moves, pairs as pairs-samples, takenAll}
 use Rattle.samples.specs.Settled.{leaving, replacing, settled}
 use Rattle.samples.specs.Sample.{tried as tried-samples, sample}
-use Rattle.paths.specs.Subframe.{down, predicted as predicted-paths, harmonic, common, tookFrom, took, leaves, putAt, put, turn, backed, backs, moveBack, subframe}
-use Rattle.paths.specs.Scale.{filled, scaledPaths, scaledWork, scaled}
+use Rattle.paths.specs.Subframe.{backed, backs, moveBack, subframe}
+use Rattle.turns.specs.Turn.{tookFrom, took, putAt, put, turn}
+use Rattle.leaving.specs.Leaving.{leaves}
+use Rattle.shared.specs.Shared.{predicted as predicted-paths, harmonic, common}
+use Rattle.places.specs.Places.{down}
+use Rattle.scaling.specs.Scale.{filled, scaledPaths, scaledWork, scaled}
 use Rattle.limits.specs.Tests.{outside, lengthAllowed, countAllowed, orderFor, oddZ, lengthsRefused, ordersRefused, pathsRefused, kindsRefused, gainRefused, someGain, gainsRefused, lagRefused, quietLagRefused, someLag, lastOf, lagsRefused}
 use Rattle.refusals.specs.Table.{eachRefused, rowsRefused, table, answerOf}
 use Rattle.calls.specs.Call.{delayOf, voicedBy, interpolatedBy, lowered, voicedDelay, quietDelay, delayBy, givenBy, lagBy, twiceBy, secondBy, rewhitesBy, sinceBy, rowBy, fixBy, halvesBy, rowsBy, whiteBy}
-use Rattle.edges.specs.Begin.{zeroPath, zeroLpcs, zeroRings, ownFrom, startLpc, startRings, begun}
+use Rattle.beginning.specs.Begin.{zeroPath, zeroLpcs, zeroRings, ownFrom, startLpc, startRings, begun}
 use Rattle.edges.specs.Flush.{bestOf, fitMiddle, fitLast, flushAt, flushed, raisedPath, otherPath, othersRaised}
 use Rattle.frame.specs.Frame.{startPaths, start, flushedRun, middleBy, rewhitened, refilled, whitened, regained, flushedFirst, whitenedFirst, before, coded, step, priorBy, turnBy, run, leftBy, endedBy, frame}
-use Rattle.edges.specs.Tail.{movedDown, wordsFrom}
-use Rattle.nsq.specs.Entry.{sizesOf, answered, outcomeBy, outcome}
+use Rattle.tails.specs.Tail.{movedDown, wordsFrom}
+use Rattle.nsq.specs.Entry.{answered, outcomeBy, outcome}
+use Rattle.calls.specs.Sizes.{sizesOf}
 use Rattle.neighbours.specs.Neighbours.{sameRow, given, differ, settingsOf, settings, stateOf, state, history, shapes, lpcs, filter, after, preds, ltps, ars, each, call, quiet, one, voiced, withPred, withLtp, withAr, withHarm, withTilt, withLags, shaped, pairs, lastLag, lastHistory, lastFilter, four, tight, tightSamples, byLate}
 
 -- all by one statement:

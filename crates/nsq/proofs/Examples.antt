@@ -11,7 +11,8 @@ use Rattle.limits.specs.Tests.{outside, lengthAllowed, countAllowed, orderFor, 
 use Rattle.refusals.specs.Table.{eachRefused, rowsRefused, table, answerOf}
 use Rattle.silk.specs.declared.structs.Settings.{Settings}
 use Rattle.calls.specs.Call.{Call, callOf}
-use Rattle.nsq.specs.Entry.{sizesOf, answered}
+use Rattle.nsq.specs.Entry.{answered}
+use Rattle.calls.specs.Sizes.{sizesOf}
 
 -- the settings: shaping order 2, one path, interpolation 4, all else 0
 set : ℤ → ℤ → ℤ → ℤ → Settings

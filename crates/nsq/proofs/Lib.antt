@@ -1,5 +1,4 @@
--- Ready: what a good call has, and the words of a state. Outcomes: accepted and refused calls. Unique: one outcome. Examples: calls, by computation.
-pub mod Ready
+-- Outcomes: accepted and refused calls. Unique: one outcome. Examples: calls, by computation.
 pub mod Outcomes
 pub mod Unique
 pub mod Examples

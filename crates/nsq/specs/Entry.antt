@@ -2,17 +2,16 @@
 -- state and the pulses, each word of them. Assumes nothing.
 use Prim.Native.Nat.{ℕ}
 use mathlib.Core.List.{List}
-use lib.ListN.{length}
 use lib.IntN.{ℤ}
 use lib.Dec.{eqb}
 use Rattle.fixed.specs.Iter.{either}
 use Rattle.silk.specs.declared.structs.NsqState.{NsqState}
 use Rattle.among.specs.Among.{Rule}
 use Rattle.refusals.specs.declared.answer.Answer.{Answer}
-use Rattle.refusals.specs.declared.answer.Sizes.{Sizes}
 use Rattle.refusals.specs.Code.{codeOf}
 use Rattle.refusals.specs.Table.{answerOf}
 use Rattle.calls.specs.Call.{Call}
+use Rattle.calls.specs.Sizes.{sizesOf}
 use Rattle.frame.specs.Frame.{Done, frame}
 
 -- what comes of a call
@@ -25,20 +24,6 @@ pub record Outcome : Type 0 where
 -- the four together
 abbrev pub outcomeOf : Answer → ℤ → NsqState → List ℤ → Outcome
 outcomeOf a seed state out = record { answer = a; seed = seed; state = state; pulses = out }
-
--- how long the rows are of a call with samples x and a row `out` for its pulses
-unfoldable pub sizesOf : Call → List ℤ → List ℤ → Sizes
-sizesOf c x out =
-    record {
-      samples = length x;
-      «pred_coef» = length (c .«PredCoef_Q12»);
-      «ltp_coef» = length (c .«LTPCoef_Q14»);
-      ar = length (c .«AR_Q13»);
-      «harm_gain» = length (c .«HarmShapeGain_Q14»);
-      tilt = length (c .«Tilt_Q14»);
-      lf = length (c .«LF_shp_Q14»);
-      pulses = length out;
-    }
 
 -- its answer, by document 01's table
 unfoldable pub answered : Call → List ℤ → List ℤ → Answer

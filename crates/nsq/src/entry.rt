@@ -4,7 +4,7 @@ ghost use mathlib.Core.Path.{_≡_};
 ghost use Rattle.among.specs.Among.{keepsFirst};
 ghost use Rattle.calls.specs.Call.{callOf};
 ghost use Rattle.nsq.specs.Entry.{outcomeOf, outcome};
-use crate::accepted;
+use coding::accepted;
 use refusals::answer::Answer;
 use refusals::answer::Sizes;
 use refusals::check;

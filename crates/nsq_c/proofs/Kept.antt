@@ -19,8 +19,12 @@ use Rattle.calls.specs.Call.{Call}
 use Rattle.frame.specs.Frame.{frame}
 use Rattle.nsq.specs.Entry.{Outcome, answered, taken, untouched, outcome, outcomeBy}
 use Rattle.nsq.proofs.Outcomes.{refused-by}
-use Rattle.plain_rows.specs.Layout.{settingsOf, stateOf, scalarsOf, wordsOf}
-use Rattle.nsq_c.specs.Rows.{Left, leftOf, stateFits, stateless, laid, called}
+use Rattle.settings_row.specs.Named.{settingsOf}
+use Rattle.plain_rows.specs.Layout.{stateOf, scalarsOf, wordsOf}
+use Rattle.nsq_c.specs.Rows.{called}
+use Rattle.plain_laid.specs.Laid.{Left, leftOf, laid}
+use Rattle.plain_answers.specs.Stateless.{stateless}
+use Rattle.plain_fresh.specs.Fresh.{stateFits}
 use Rattle.plain_rows.proofs.Laid.{joined}
 
 -- ---- a state, laid and read

@@ -1,4 +1,3 @@
--- Refused: the answer where a state's row is another. Kept: what the rows give back. Unique: one outcome.
-pub mod Refused
+-- Kept: what the rows give back. Unique: one outcome.
 pub mod Kept
 pub mod Unique

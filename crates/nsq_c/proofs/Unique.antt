@@ -1,7 +1,8 @@
 -- The two contracts leave one outcome each, for every row of every length. Assumes nothing.
 use mathlib.Core.Path.{_≡_, sym, _∙_, ap}
 use denote.Ref.{now}
-use Rattle.nsq_c.specs.Rows.{Freshly, Left}
+use Rattle.plain_laid.specs.Laid.{Left}
+use Rattle.plain_fresh.specs.Fresh.{Freshly}
 use Rattle.nsq_c.proofs.fresh.nsq_fresh.Reads as fresh
 use Rattle.nsq_c.proofs.call.nsq_del_dec.Reads as call
 

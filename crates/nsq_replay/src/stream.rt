@@ -8,10 +8,13 @@ use crate::state;
 use crate::state::Held;
 use crate::words;
 use crate::words::Stretch;
+use fixed::wrap;
 use limits::count;
 use nsq::entry;
 use nsq::entry::Answered;
-use refusals::answer::Answer;
+use plain_answers::answers;
+use prefixes::prefix;
+use settings_row::named;
 use silk::structs::NsqState;
 use silk::structs::Settings;
 
@@ -39,34 +42,7 @@ fn frame_length(s: Settings) -> usize
 }
 
 fn settings_of(words: [i32; 320]) -> Settings {
-    Settings {
-        subfr_length: words[0],
-        nb_subfr: words[1],
-        predictLPCOrder: words[2],
-        shapingLPCOrder: words[3],
-        nStatesDelayedDecision: words[4],
-        warping_Q16: words[5],
-        signalType: words[6],
-        quantOffsetType: words[7],
-        NLSFInterpCoef_Q2: words[8],
-        Seed: words[9],
-        Lambda_Q10: words[10],
-        LTP_scale_Q14: words[11],
-    }
-}
-
-// Document 01's number of an answer.
-fn number_of(a: Answer) -> i32 {
-    match a {
-        Answer::Accepted => 0,
-        Answer::Lengths => 1,
-        Answer::Orders => 2,
-        Answer::Paths => 3,
-        Answer::Kinds => 4,
-        Answer::Rows => 5,
-        Answer::Gains => 6,
-        Answer::Lags => 7,
-    }
+    named::settings_of(&words)
 }
 
 // The state that a call starts from: `state fresh`, `state prev` or `state given` with its words.
@@ -111,57 +87,6 @@ fn printed(
     print::full(next, rand_seed);
 }
 
-// The call, of whose rows the first words are lent.
-fn called(
-    s: Settings,
-    state: NsqState,
-    out: &mut [i8],
-    outN: usize,
-    x: &[i16],
-    xN: usize,
-    pred: &[i16],
-    predN: usize,
-    long: &[i16],
-    longN: usize,
-    ar: &[i16],
-    arN: usize,
-    harm: &[i32],
-    harmN: usize,
-    tilt: &[i32],
-    tiltN: usize,
-    lf: &[i32],
-    lfN: usize,
-    gains: &[i32],
-    gainsN: usize,
-    lags: &[i32],
-    lagsN: usize,
-) -> Answered {
-    let out_end = rows::within(outN, out.len());
-    let x_end = rows::within(xN, x.len());
-    let pred_end = rows::within(predN, pred.len());
-    let long_end = rows::within(longN, long.len());
-    let ar_end = rows::within(arN, ar.len());
-    let harm_end = rows::within(harmN, harm.len());
-    let tilt_end = rows::within(tiltN, tilt.len());
-    let lf_end = rows::within(lfN, lf.len());
-    let gains_end = rows::within(gainsN, gains.len());
-    let lags_end = rows::within(lagsN, lags.len());
-    entry::silk_NSQ_del_dec(
-        s,
-        state,
-        &x[0..x_end],
-        &mut out[0..out_end],
-        &pred[0..pred_end],
-        &long[0..long_end],
-        &ar[0..ar_end],
-        &harm[0..harm_end],
-        &tilt[0..tilt_end],
-        &lf[0..lf_end],
-        &gains[0..gains_end],
-        &lags[0..lags_end],
-    )
-}
-
 // The call, its rows lent from what was read.
 fn asked(
     s: Settings,
@@ -178,6 +103,7 @@ fn asked(
     gains: Row32,
     lags: Row32,
 ) -> Answered {
+    let end = rows::within(n, out.len());
     let x_words = rows::halves_of(x);
     let pred_words = rows::halves_of(pred);
     let long_words = rows::halves_of(long);
@@ -187,29 +113,19 @@ fn asked(
     let lf_words = rows::words_of(lf);
     let gains_words = rows::words_of(gains);
     let lags_words = rows::words_of(lags);
-    called(
+    entry::silk_NSQ_del_dec(
         s,
         state,
-        out,
-        n,
-        &x_words,
-        x.count,
-        &pred_words,
-        pred.count,
-        &long_words,
-        long.count,
-        &ar_words,
-        ar.count,
-        &harm_words,
-        harm.count,
-        &tilt_words,
-        tilt.count,
-        &lf_words,
-        lf.count,
-        &gains_words,
-        gains.count,
-        &lags_words,
-        lags.count,
+        prefix::first16(&x_words, x.count),
+        &mut out[0..end],
+        prefix::first16(&pred_words, pred.count),
+        prefix::first16(&long_words, long.count),
+        prefix::first16(&ar_words, ar.count),
+        prefix::first32(&harm_words, harm.count),
+        prefix::first32(&tilt_words, tilt.count),
+        prefix::first32(&lf_words, lf.count),
+        prefix::first32(&gains_words, gains.count),
+        prefix::first32(&lags_words, lags.count),
     )
 }
 
@@ -249,7 +165,7 @@ fn answered(
     let answer = r.answer;
     let history = 4 * rows::kept(count::count(s.subfr_length));
     printed(
-        number_of(answer),
+        wrap::low32(answers::number(answer) as i64),
         r.seed,
         next,
         from.rand_seed,

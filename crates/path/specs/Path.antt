@@ -12,7 +12,7 @@ use Rattle.warped.specs.WarpedFilter.{Filter, warpedFilter}
 use Rattle.shaping.specs.NoiseTerms.{arTerm, lfTerm}
 use Rattle.shaping.specs.Residual.{residual}
 use Rattle.choice.specs.declared.candidate.Choice.{Choice}
-use Rattle.choice.specs.Residual.{signedResidual, signedExcitation}
+use Rattle.residuals.specs.Residual.{signedResidual, signedExcitation}
 use Rattle.choice.specs.RustChoice.{choice}
 use Rattle.path.specs.declared.structs.Path.{Path}
 use Rattle.path.specs.declared.structs.Candidate.{Candidate}

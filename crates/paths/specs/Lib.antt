@@ -1,2 +1,1 @@
 pub mod Subframe
-pub mod Scale

@@ -4,11 +4,12 @@ ghost use Prim.Native.Nat.{_+_, _<_, _≤_};
 ghost use lib.ListN.{length};
 ghost use Rattle.path.specs.Data.{rows, running};
 ghost use Rattle.among.specs.Among.{keepsFirst};
-ghost use Rattle.paths.specs.Subframe.{Fits, backed, backs as backsZ, subframe as subframeZ};
-use crate::turn;
+ghost use Rattle.paths.specs.Subframe.{backed, backs as backsZ, subframe as subframeZ};
+ghost use Rattle.places.specs.Places.{Fits};
 use path::structs::Fix;
 use path::structs::Halves;
 use path::structs::Work;
+use turns::turn;
 
 // The last 16 LPC words of a path, behind l samples, move to the front.
 fn moved_back(w: &mut [i32; 96], l: usize)

@@ -1,29 +1,10 @@
--- Settings and state as plain rows: which word stands where. Settings are 12 words in document 01's order. A state is a row of 640 samples and
+-- A state as plain rows: which word stands where. A state is a row of 640 samples and
 -- a row of 767 words: 640 shaping words, 96 LPC words, 24 shaping filter words, and seven that stand alone. Assumes nothing.
 use mathlib.Core.List.{List, [], _∷_, _++_}
 use lib.ListN.{take, drop}
 use lib.IntN.{ℤ}
-use Rattle.silk.specs.declared.structs.Settings.{Settings}
 use Rattle.silk.specs.declared.structs.NsqState.{NsqState}
 use Rattle.path.specs.Data.{word}
-
--- the settings in a row of 12
-unfoldable pub settingsOf : List ℤ → Settings
-settingsOf row =
-    record {
-      «subfr_length» = word row 0;
-      «nb_subfr» = word row 1;
-      predictLPCOrder = word row 2;
-      shapingLPCOrder = word row 3;
-      nStatesDelayedDecision = word row 4;
-      «warping_Q16» = word row 5;
-      signalType = word row 6;
-      quantOffsetType = word row 7;
-      «NLSFInterpCoef_Q2» = word row 8;
-      Seed = word row 9;
-      «Lambda_Q10» = word row 10;
-      «LTP_scale_Q14» = word row 11;
-    }
 
 -- the state in a row of 640 samples and one of 767 words
 unfoldable pub stateOf : List ℤ → List ℤ → NsqState

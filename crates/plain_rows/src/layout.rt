@@ -2,31 +2,9 @@
 ghost use denote.Ref.{now};
 ghost use mathlib.Core.Path.{_≡_};
 ghost use lib.ListN.{length};
-ghost use Rattle.plain_rows.specs.Layout.{settingsOf, stateOf, scalarsOf, wordsOf};
+ghost use Rattle.plain_rows.specs.Layout.{stateOf, scalarsOf, wordsOf};
 use crate::copies;
 use silk::structs::NsqState;
-use silk::structs::Settings;
-
-// The settings that a row of 12 words holds.
-pub fn settings_of(row: &[i32]) -> Settings
-    requires { ⌜ length (now row) ≡ 12 ⌝ }
-    ensures { λ r. ⌜ r ≡ settingsOf (now (row .entry)) ⌝ }
-{
-    Settings {
-        subfr_length: row[0],
-        nb_subfr: row[1],
-        predictLPCOrder: row[2],
-        shapingLPCOrder: row[3],
-        nStatesDelayedDecision: row[4],
-        warping_Q16: row[5],
-        signalType: row[6],
-        quantOffsetType: row[7],
-        NLSFInterpCoef_Q2: row[8],
-        Seed: row[9],
-        Lambda_Q10: row[10],
-        LTP_scale_Q14: row[11],
-    }
-}
 
 // The 640 samples of history.
 fn history(samples: &[i16], blank: [i16; 640]) -> [i16; 640]

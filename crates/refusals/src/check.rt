@@ -5,8 +5,8 @@ ghost use Rattle.refusals.specs.Table.{answerOf};
 use crate::answer::Answer;
 use crate::answer::Sizes;
 use crate::rows;
+use lag_limits::lags;
 use limits::gains;
-use limits::lags;
 use limits::settings;
 use silk::structs::Settings;
 

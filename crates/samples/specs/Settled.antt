@@ -5,7 +5,9 @@ use lib.IntN.{ℤ}
 use Rattle.path.specs.declared.structs.Candidate.{Candidate}
 use Rattle.path.specs.declared.structs.Sampled.{Sampled}
 use Rattle.path.specs.Data.{Paths, paths, ringQ, ringXq, ringPred, ringShape, ringAt}
-use Rattle.among.specs.Among.{leastOf, penalised, swapOf, Rule, replaced, movedOver}
+use Rattle.among.specs.Among.{swapOf, Rule, replaced, movedOver}
+use Rattle.penalty.specs.Penalty.{penalised}
+use Rattle.winner.specs.Winner.{leastOf}
 use Rattle.samples.specs.Each.{takenAll}
 
 -- what it leaves: the paths, and the words of the sample that is a decision delay old

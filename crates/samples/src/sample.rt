@@ -7,9 +7,7 @@ ghost use Rattle.among.specs.Among.{keepsFirst};
 ghost use Rattle.samples.specs.Settled.{settledOf, leaving as leavingZ, settled as settledZ};
 ghost use Rattle.samples.specs.Sample.{sample as sampleZ};
 use crate::each;
-use among::penalty;
 use among::replacement;
-use among::winner;
 use path::structs::Candidate;
 use path::structs::Common;
 use path::structs::Fix;
@@ -20,6 +18,8 @@ use path::structs::Q_Q10;
 use path::structs::SHAPE_Q14;
 use path::structs::Sampled;
 use path::structs::XQ_Q14;
+use penalty::penalties;
+use winner::search;
 
 // The words of path w at the place `last` leave, before every path takes its first candidate.
 fn leaving(
@@ -64,8 +64,8 @@ fn settled(
     requires { ⌜ ((0 < n) × (n ≤ 4)) × ((i < 80) × ((r < 40) × (last < 40))) ⌝ }
     ensures { λ s. ⌜ settledOf s (now (lpc .exit)) (now (ring .exit)) ≡ settledZ keepsFirst c n i r last (paths ps (now (lpc .entry)) (now (ring .entry))) ⌝ }
 {
-    let w = winner::least(c, 0, n);
-    let d = penalty::penalised(c, ring, n, w, last);
+    let w = search::least(c, 0, n);
+    let d = penalties::penalised(c, ring, n, w, last);
     let s = replacement::swap_of(d, n);
     let e = replacement::moved_over(d, s);
     let qs = replacement::replaced(ps, lpc, ring, s, i);

@@ -4,16 +4,10 @@ use mathlib.Core.Path.{_≡_, refl}
 use lib.IntN.{pos, negsuc}
 use Rattle.fixed.specs.Wrap.{wrapTo, wrap8, wrap32}
 use Rattle.fixed.specs.Range.{clamp, sat16}
-use Rattle.fixed.specs.Shift.{shr, shr32, shl32, or32, rround}
+use Rattle.fixed.specs.Shift.{shr, rround}
 use Rattle.products.specs.Product.{smulww}
-use Rattle.shaping.specs.Harmonic.{packedGain}
 use Rattle.shaping.specs.Output.{pulseOf, xqOut}
 use Rattle.shaping.specs.Residual.{predicted, residual}
-
--- the gain -1 packs to -1: a sum of the two halves would be -65537
-pub packed-by-or : packedGain (negsuc 0) ≡ negsuc 0
-unfolding packedGain or32 shl32 shr32 shr wrap32 wrapTo
-packed-by-or = refl
 
 -- levels 511, 512, -512 and -513: the middle goes up, also below 0; and 131072 is 128, which wraps to -128
 pub pulse-rounds : (pulseOf (pos 511) ≡ pos 0) × (pulseOf (pos 512) ≡ pos 1) × (pulseOf (negsuc 511) ≡ pos 0) × (pulseOf (negsuc 512) ≡ negsuc 0) × (pulseOf (pos 131072) ≡ negsuc 127)

@@ -6,8 +6,6 @@ use Rattle.shaping.proofs.long_prediction.ltp_prediction.Reads as ltp-p
 use Rattle.shaping.proofs.start.half_order.Reads as half-order
 use Rattle.shaping.proofs.noise_terms.n_AR.Reads as n-AR
 use Rattle.shaping.proofs.noise_terms.n_LF.Reads as n-LF
-use Rattle.shaping.proofs.harmonic.harm_shape_packed.Reads as harm-shape-packed
-use Rattle.shaping.proofs.harmonic.n_LTP.Reads as n-LTP
 use Rattle.shaping.proofs.residual.residual.Reads as residual
 use Rattle.shaping.proofs.output.pulse_of.Reads as pulse-of
 use Rattle.shaping.proofs.output.xq_out8.Reads as xq-out8
@@ -24,12 +22,6 @@ n-AR-unique κs a r s e p q = p ∙ sym q
 
 pub n-LF-unique : (κs a r s e : _) → n-LF.Post κs a r e → n-LF.Post κs a s e → r ≡ s
 n-LF-unique κs a r s e p q = p ∙ sym q
-
-pub harm-shape-packed-unique : (κs a r s e : _) → harm-shape-packed.Post κs a r e → harm-shape-packed.Post κs a s e → r ≡ s
-harm-shape-packed-unique κs a r s e p q = p ∙ sym q
-
-pub n-LTP-unique : (κs a r s e : _) → n-LTP.Post κs a r e → n-LTP.Post κs a s e → r ≡ s
-n-LTP-unique κs a r s e p q = p ∙ sym q
 
 pub residual-unique : (κs a r s e : _) → residual.Post κs a r e → residual.Post κs a s e → r ≡ s
 residual-unique κs a r s e p q = p ∙ sym q

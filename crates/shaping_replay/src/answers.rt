@@ -1,7 +1,7 @@
 // The answer of each function to the arguments of a seed and of the turn i.
 use crate::words;
 use fixed::wrap;
-use shaping::harmonic;
+use harmonic::terms;
 use shaping::long_prediction;
 use shaping::noise_terms;
 use shaping::output;
@@ -29,7 +29,7 @@ fn of_words(function: usize, a: i32) -> i32 {
     match function {
         4 => noise_terms::n_AR(x, y, words::word(c)),
         5 => noise_terms::n_LF(x, y, words::word(c)),
-        6 => harmonic::harm_shape_packed(x),
+        6 => terms::harm_shape_packed(x),
         8 => residual_of(x, y, c),
         9 => wrap::wide8(output::pulse_of(words::level(a))),
         10 => wrap::wide16(output::xq_out8(x, y)),
@@ -62,7 +62,7 @@ fn harmonic_term(seed: i32, i: usize) -> i32 {
     let shp = words::words640(seed);
     let b = words::next(seed);
     let c = words::next(b);
-    harmonic::n_LTP(&shp, 2 + i % 638, words::word(b), words::word(c))
+    terms::n_LTP(&shp, 2 + i % 638, words::word(b), words::word(c))
 }
 
 // Every even order from 2 to 24.

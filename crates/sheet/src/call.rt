@@ -3,12 +3,13 @@ ghost use Prim.Native.Nat.{_≤_};
 use limits::count;
 use nsq::entry;
 use nsq::entry::Answered;
-use refusals::answer::Answer;
+use plain_answers::answers;
+use prefixes::prefix;
 use sheet_form::rows::Row16;
 use sheet_form::rows::Row32;
 use sheet_form::sheet;
 use sheet_form::sheet::Sheet;
-use sheet_print::text;
+use sheet_text::text;
 use silk::structs::NsqState;
 use silk::structs::Settings;
 
@@ -48,68 +49,44 @@ fn frame_length(s: Settings) -> usize
     kept(2 * l)
 }
 
-// Document 01's number of an answer.
-fn number_of(a: Answer) -> u32 {
-    match a {
-        Answer::Accepted => 0,
-        Answer::Lengths => 1,
-        Answer::Orders => 2,
-        Answer::Paths => 3,
-        Answer::Kinds => 4,
-        Answer::Rows => 5,
-        Answer::Gains => 6,
-        Answer::Lags => 7,
-    }
-}
-
-// The call, of whose rows the first words are lent.
+// The call, its rows lent from what was read.
 fn called(
     s: Settings,
-    state: NsqState,
     out: &mut [i8],
-    outN: usize,
-    x: &[i16],
-    xN: usize,
-    pred: &[i16],
-    predN: usize,
-    long: &[i16],
-    longN: usize,
-    ar: &[i16],
-    arN: usize,
-    harm: &[i32],
-    harmN: usize,
-    tilt: &[i32],
-    tiltN: usize,
-    lf: &[i32],
-    lfN: usize,
-    gains: &[i32],
-    gainsN: usize,
-    lags: &[i32],
-    lagsN: usize,
+    n: usize,
+    x: Row16,
+    pred: Row16,
+    long: Row16,
+    ar: Row16,
+    harm: Row32,
+    tilt: Row32,
+    lf: Row32,
+    gains: Row32,
+    lags: Row32,
 ) -> Answered {
-    let out_end = within(outN, out.len());
-    let x_end = within(xN, x.len());
-    let pred_end = within(predN, pred.len());
-    let long_end = within(longN, long.len());
-    let ar_end = within(arN, ar.len());
-    let harm_end = within(harmN, harm.len());
-    let tilt_end = within(tiltN, tilt.len());
-    let lf_end = within(lfN, lf.len());
-    let gains_end = within(gainsN, gains.len());
-    let lags_end = within(lagsN, lags.len());
+    let end = within(n, out.len());
+    let x_words = halves_of(x);
+    let pred_words = halves_of(pred);
+    let long_words = halves_of(long);
+    let ar_words = halves_of(ar);
+    let harm_words = words_of(harm);
+    let tilt_words = words_of(tilt);
+    let lf_words = words_of(lf);
+    let gains_words = words_of(gains);
+    let lags_words = words_of(lags);
     entry::silk_NSQ_del_dec(
         s,
-        state,
-        &x[0..x_end],
-        &mut out[0..out_end],
-        &pred[0..pred_end],
-        &long[0..long_end],
-        &ar[0..ar_end],
-        &harm[0..harm_end],
-        &tilt[0..tilt_end],
-        &lf[0..lf_end],
-        &gains[0..gains_end],
-        &lags[0..lags_end],
+        NsqState::fresh(),
+        prefix::first16(&x_words, x.count),
+        &mut out[0..end],
+        prefix::first16(&pred_words, pred.count),
+        prefix::first16(&long_words, long.count),
+        prefix::first16(&ar_words, ar.count),
+        prefix::first32(&harm_words, harm.count),
+        prefix::first32(&tilt_words, tilt.count),
+        prefix::first32(&lf_words, lf.count),
+        prefix::first32(&gains_words, gains.count),
+        prefix::first32(&lags_words, lags.count),
     )
 }
 
@@ -134,39 +111,20 @@ pub fn answered(read: Sheet, page: &mut [u8]) -> usize {
     let lf = read.lfs;
     let gains = read.gains;
     let lags = read.lags;
-    let x_words = halves_of(x);
-    let pred_words = halves_of(pred);
-    let long_words = halves_of(long);
-    let ar_words = halves_of(ar);
-    let harm_words = words_of(harm);
-    let tilt_words = words_of(tilt);
-    let lf_words = words_of(lf);
-    let gains_words = words_of(gains);
-    let lags_words = words_of(lags);
     let r = called(
         s,
-        NsqState::fresh(),
         &mut space,
         n,
-        &x_words,
-        x.count,
-        &pred_words,
-        pred.count,
-        &long_words,
-        long.count,
-        &ar_words,
-        ar.count,
-        &harm_words,
-        harm.count,
-        &tilt_words,
-        tilt.count,
-        &lf_words,
-        lf.count,
-        &gains_words,
-        gains.count,
-        &lags_words,
-        lags.count,
+        x,
+        pred,
+        long,
+        ar,
+        harm,
+        tilt,
+        lf,
+        gains,
+        lags,
     );
     let answer = r.answer;
-    shown(page, number_of(answer), r.seed, &space, n)
+    shown(page, answers::number(answer), r.seed, &space, n)
 }

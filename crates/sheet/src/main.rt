@@ -4,7 +4,7 @@ mod call;
 
 use sheet_form::sheet;
 use sheet_form::sheet::Verdict;
-use sheet_print::text;
+use sheet_text::text;
 
 // The fault of a sheet, or the answer of its call.
 fn page_of(read: &[u8], page: &mut [u8]) -> usize {

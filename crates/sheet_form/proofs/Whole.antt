@@ -10,10 +10,11 @@ use lib.Dec.{ltb}
 use borrow.Author.Tests.{eq-eqb, ne-eqb}
 use Rattle.fixed.specs.Iter.{either}
 use Rattle.silk.specs.declared.structs.Settings.{Settings}
+use Rattle.settings_row.specs.Named.{settingsOf}
 use Rattle.sheet_form.specs.Number.{Read, got, bad, run, separator}
 use Rattle.sheet_form.specs.Sections.{Kind, Reading, fault, sheet, settings, row, i16, i32, layout, section, after, orFault, ended, sections, reading}
 use Rattle.sheet_form.specs.Rows.{Rest, left, stopped, taken, takeSection, row16, row32, padded}
-use Rattle.sheet_form.specs.Sheets.{settingsOf, sheetWith, startRest, endOf}
+use Rattle.sheet_form.specs.Sheets.{sheetWith, startRest, endOf}
 use Rattle.sheet_form.specs.declared.rows.Row16.{Row16}
 use Rattle.sheet_form.specs.declared.rows.Row32.{Row32}
 use Rattle.sheet_form.specs.declared.sheet.Sheet.{Sheet}
@@ -88,6 +89,7 @@ module _ (ρ0 ρ1 ρ2 ρ3 ρ4 ρ5 ρ6 ρ7 ρ8 ρ9 ρ10 : Rest)
 
 -- ---- the rows as the code holds them
 settings-padded : (zs : List ℤ) → settingsOf (padded zs) ≡ settingsOf zs
+unfolding settingsOf
 settings-padded zs = simp (padded-at zs)
 
 pub held : (v : Verdict) (s : Settings) (x1 : Row32) (x2 x3 x4 x5 : Row16) (x6 x7 x8 x9 x10 : Row32) (r1 r2 r3 r4 r5 r6 r7 r8 r9 r10 : List ℤ)

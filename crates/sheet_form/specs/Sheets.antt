@@ -7,29 +7,12 @@ use lib.IntN.{ℤ, pos, natAbs}
 use lib.Dec.{ltb, eqb}
 use Rattle.fixed.specs.Iter.{either}
 use Rattle.silk.specs.declared.structs.Settings.{Settings}
+use Rattle.settings_row.specs.Named.{settingsOf}
 use Rattle.sheet_form.specs.Sections.{Reading, fault, sheet, ended}
 use Rattle.sheet_form.specs.Rows.{Rest, left, stopped, row16, row32}
 use Rattle.sheet_form.specs.declared.sheet.Verdict.{Verdict}
 use Rattle.sheet_form.specs.declared.sheet.Verdict.the-variants as verdict
 use Rattle.sheet_form.specs.declared.sheet.Sheet.{Sheet}
-
--- section 1 by name: document 01's order of the twelve settings
-abbrev pub settingsOf : List ℤ → Settings
-settingsOf zs =
-    record {
-      «subfr_length» = getD zs 0 (pos 0);
-      «nb_subfr» = getD zs 1 (pos 0);
-      predictLPCOrder = getD zs 2 (pos 0);
-      shapingLPCOrder = getD zs 3 (pos 0);
-      nStatesDelayedDecision = getD zs 4 (pos 0);
-      «warping_Q16» = getD zs 5 (pos 0);
-      signalType = getD zs 6 (pos 0);
-      quantOffsetType = getD zs 7 (pos 0);
-      «NLSFInterpCoef_Q2» = getD zs 8 (pos 0);
-      Seed = getD zs 9 (pos 0);
-      «Lambda_Q10» = getD zs 10 (pos 0);
-      «LTP_scale_Q14» = getD zs 11 (pos 0);
-    }
 
 -- the sections of a sheet by name, in their order; a section that is not there is empty
 unfoldable pub sheetWith : Verdict → List (List ℤ) → Sheet

@@ -1,9 +1,10 @@
 // A whole call sheet: read from bytes.
 ghost use mathlib.Core.Path.{_≡_};
 ghost use mathlib.Core.List.{[]};
+ghost use Rattle.settings_row.specs.Named.{settingsOf};
 ghost use Rattle.sheet_form.specs.Sections.{reading, fault};
 ghost use Rattle.sheet_form.specs.Rows.{restAt};
-ghost use Rattle.sheet_form.specs.Sheets.{sheetOf, settingsOf, withDefault, startRest, verdictOf, endOf};
+ghost use Rattle.sheet_form.specs.Sheets.{sheetOf, withDefault, startRest, verdictOf, endOf};
 use crate::blank;
 use crate::number;
 use crate::number::Class;
@@ -11,6 +12,7 @@ use crate::rows::Row16;
 use crate::rows::Row32;
 use crate::section;
 use crate::section::Place;
+use settings_row::named;
 use silk::structs::Settings;
 
 // The bytes that a sheet can have, at most.
@@ -71,20 +73,7 @@ fn end(text: &[u8], from: Place) -> Verdict
 fn settings_of(words: [i32; 320]) -> Settings
     ensures { λ r. ⌜ r ≡ settingsOf words ⌝ }
 {
-    Settings {
-        subfr_length: words[0],
-        nb_subfr: words[1],
-        predictLPCOrder: words[2],
-        shapingLPCOrder: words[3],
-        nStatesDelayedDecision: words[4],
-        warping_Q16: words[5],
-        signalType: words[6],
-        quantOffsetType: words[7],
-        NLSFInterpCoef_Q2: words[8],
-        Seed: words[9],
-        Lambda_Q10: words[10],
-        LTP_scale_Q14: words[11],
-    }
+    named::settings_of(&words)
 }
 
 fn no_settings() -> Settings

@@ -1,7 +1,4 @@
-pub mod Pages
-pub mod Digits
-pub mod Signs
-pub mod Lines
-pub mod Unique
+-- Printed, RoundTrip: what is printed is read back. Unique: one outcome.
 pub mod Printed
 pub mod RoundTrip
+pub mod Unique

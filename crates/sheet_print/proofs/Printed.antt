@@ -15,8 +15,8 @@ use Rattle.sheet_form.specs.Number.{is, Range, got, separator, inWord, digit, r
 use Rattle.sheet_form.specs.Number as form
 use Rattle.sheet_form.proofs.Values.{first-digit, digit-at}
 use Rattle.sheet_form.proofs.Words.{number-of-plain}
-use Rattle.sheet_print.specs.Text.{digitsUpTo, digits, decimal}
-use Rattle.sheet_print.proofs.Digits.{up-one, up-more, tenth}
+use Rattle.pages.specs.Decimal.{digitsUpTo, digits, decimal}
+use Rattle.pages.proofs.Digits.{up-one, up-more, tenth}
 
 -- ---- runs
 either-suc : (t : Bool) (m n : ℕ) → either t (suc m) 0 ≡ suc n → (t ≡ true) × (m ≡ n)

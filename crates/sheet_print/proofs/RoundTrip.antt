@@ -12,7 +12,8 @@ use lib.Signed.{ltZ}
 use Rattle.fixed.proofs.Lin.{P, N, lt-false}
 use Rattle.sheet_form.specs.Number.{is, Range, got, separator, run, within, number}
 use Rattle.sheet_form.specs.Sections.{Kind, sheet, andThen, before, numbers, section, orFault, after, ended, sections, reading, layout, settings, row, i16, i32}
-use Rattle.sheet_print.specs.Text.{decimal, spaced, sectionText, sheetText}
+use Rattle.sheet_text.specs.Text.{spaced, sectionText, sheetText}
+use Rattle.pages.specs.Decimal.{decimal}
 use Rattle.sheet_print.proofs.Printed.{Ends, decimal-few, number-printed, number-skip}
 
 -- ---- sheets within the counts and the types

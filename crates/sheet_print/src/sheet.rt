@@ -2,10 +2,10 @@
 ghost use mathlib.Core.Path.{_≡_};
 ghost use Prim.Native.Nat.{_≤_};
 ghost use lib.ListN.{take, length};
-ghost use Rattle.sheet_print.specs.Page.{page, puts};
-ghost use Rattle.sheet_print.specs.Text.{sectionText, sheetText};
+ghost use Rattle.pages.specs.Page.{page, puts};
+ghost use Rattle.sheet_text.specs.Text.{sectionText, sheetText};
 ghost use Rattle.sheet_print.specs.Rows.{settingsRow, halfRows, wholeRows, rowsOf};
-use crate::page;
+use pages::page;
 use sheet_form::sheet::Sheet;
 use silk::structs::Settings;
 

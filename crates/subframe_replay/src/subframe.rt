@@ -1,6 +1,6 @@
 // One subframe: its rows are made, the two functions called, and all rows printed.
 ghost use Prim.Native.Nat.{_<_};
-ghost use Rattle.paths.specs.Subframe.{Fits};
+ghost use Rattle.places.specs.Places.{Fits};
 use crate::digest;
 use crate::fits;
 use crate::rows;
@@ -8,8 +8,8 @@ use crate::settings;
 use crate::words;
 use path::structs::Fix;
 use path::structs::Work;
-use paths::scale;
 use paths::subframe;
+use scaling::scale;
 use silk::gains;
 
 // The work row of a rewhitened subframe.

@@ -2,7 +2,7 @@
 use mathlib.Core.Path.{ap, _∙_}
 use borrow.Author.Needs.{needs}
 use Rattle.fixed.proofs.Fit.{read, got32}
-use Rattle.choice.proofs.Laws.{pair}
+use Rattle.levels.proofs.Laws.{pair}
 use Rattle.choice.specs.RustChoice.{costed, choice}
 use Rattle.choice.proofs.candidate.candidates.Statement.{statement}
 use Rattle.choice.proofs.candidate.candidates.Tie as tie

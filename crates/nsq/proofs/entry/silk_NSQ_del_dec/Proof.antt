@@ -11,8 +11,9 @@ use Rattle.refusals.specs.Code.{codeOf}
 use Rattle.refusals.proofs.Matched.{tag-code, code-refused, good-matched}
 use Rattle.calls.specs.Call.{callOf}
 use Rattle.frame.specs.Frame.{Done}
-use Rattle.nsq.specs.Entry.{Outcome, outcomeOf, sizesOf, answered, taken, outcomeBy, outcome}
-use Rattle.nsq.proofs.Ready.{state}
+use Rattle.nsq.specs.Entry.{Outcome, outcomeOf, answered, taken, outcomeBy, outcome}
+use Rattle.calls.specs.Sizes.{sizesOf}
+use Rattle.coding.proofs.Ready.{state}
 use Rattle.nsq.proofs.Outcomes.{accepted-by, refused-by}
 use Rattle.nsq.proofs.entry.silk_NSQ_del_dec.Statement.{statement}
 use Rattle.nsq.proofs.entry.silk_NSQ_del_dec.Tie as tie

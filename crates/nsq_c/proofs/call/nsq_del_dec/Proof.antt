@@ -5,7 +5,9 @@ use borrow.Author.Needs.{needs}
 use borrow.Author.Tests.{eq-eqb, ne-eqb}
 use denote.Ref.{now}
 use Rattle.nsq.specs.Entry.{Outcome}
-use Rattle.nsq_c.specs.Rows.{Left, stateFits, laid, called}
+use Rattle.nsq_c.specs.Rows.{called}
+use Rattle.plain_laid.specs.Laid.{Left, laid}
+use Rattle.plain_fresh.specs.Fresh.{stateFits}
 use Rattle.nsq_c.proofs.call.nsq_del_dec.Statement.{statement}
 use Rattle.nsq_c.proofs.call.nsq_del_dec.Tie as tie
 

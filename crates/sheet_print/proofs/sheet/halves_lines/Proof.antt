@@ -3,9 +3,9 @@ use mathlib.Core.Path.{ap, _∙_}
 use borrow.Author.Needs.{needs}
 use lib.ListN.{take}
 use denote.Ref.{now}
-use Rattle.sheet_print.specs.Page.{page, puts}
-use Rattle.sheet_print.specs.Text.{sectionText}
-use Rattle.sheet_print.proofs.Lines.{four-puts}
+use Rattle.pages.specs.Page.{page, puts}
+use Rattle.sheet_text.specs.Text.{sectionText}
+use Rattle.sheet_text.proofs.Lines.{four-puts}
 use Rattle.sheet_print.proofs.sheet.halves_lines.Statement.{statement}
 use Rattle.sheet_print.proofs.sheet.halves_lines.Tie as tie
 

@@ -7,8 +7,8 @@ use lib.Seq.{length-take-le, take-all}
 use lib.IntN.{ℤ}
 use mathlib.Core.List.{List}
 use denote.Ref.{now}
-use Rattle.sheet_print.specs.Page.{page, puts}
-use Rattle.sheet_print.specs.Text.{sectionText}
+use Rattle.pages.specs.Page.{page, puts}
+use Rattle.sheet_text.specs.Text.{sectionText}
 use Rattle.sheet_print.proofs.sheet.line32.Statement.{statement}
 use Rattle.sheet_print.proofs.sheet.line32.Tie as tie
 

@@ -3,10 +3,10 @@ use mathlib.Core.Path.{ap, _∙_}
 use borrow.Author.Needs.{needs}
 use mathlib.Core.List.{_++_}
 use denote.Ref.{now}
-use Rattle.sheet_print.specs.Page.{page, puts}
-use Rattle.sheet_print.specs.Text.{sheetText}
+use Rattle.pages.specs.Page.{page, puts}
+use Rattle.sheet_text.specs.Text.{sheetText}
 use Rattle.sheet_print.specs.Rows.{settingsRow, halfRows, wholeRows, rowsOf}
-use Rattle.sheet_print.proofs.Lines.{rows-puts, first-puts}
+use Rattle.sheet_text.proofs.Lines.{rows-puts, first-puts}
 use Rattle.sheet_print.proofs.sheet.print.Statement.{statement}
 use Rattle.sheet_print.proofs.sheet.print.Tie as tie
 

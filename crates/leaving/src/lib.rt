@@ -1,0 +1,2 @@
+// What leaves at the decision delay (`silk_noise_shape_quantizer_del_dec` of NSQ_del_dec.rs).
+pub mod emission;

@@ -1,0 +1,56 @@
+-- Bytes appended to a page. Assumes nothing.
+use mathlib.Core.Path.{_≡_, refl, sym, ap, _∙_}
+use mathlib.Core.List.{List, [], _∷_, _++_, append-assoc, append-nil}
+use Prim.Native.Nat.{ℕ, suc, _+_, _≤_, _<_}
+use native.Mathlib.Omega.{arith}
+use native.Mathlib.Numerals.{add-one}
+use borrow.Author.Tests.{lt-ltb, le-ltb}
+use lib.ListN.{length, drop, take, getD, set, length-set, take-append-drop}
+use lib.Seq.{drop-cons, drop-length, take-suc-set, drop-set-lt}
+use Rattle.pages.specs.Page.{Page, page, put, puts}
+
+pub put-in : (b n : ℕ) (out : List ℕ) → n < length out → page (n + 1) (set out n b) ≡ put b (page n out)
+unfolding put
+put-in b n out h = rw (lt-ltb n (length out) h)
+
+pub put-full : (b n : ℕ) (out : List ℕ) → length out ≤ n → page n out ≡ put b (page n out)
+unfolding put
+put-full b n out h = rw (le-ltb n (length out) h)
+
+-- one byte more of a row
+pub puts-more : (bytes : List ℕ) (i : ℕ) (p : Page) → i < length bytes → puts (drop i bytes) p ≡ puts (drop (i + 1) bytes) (put (getD bytes i 0) p)
+unfolding puts
+puts-more bytes i p h = rw (drop-cons bytes i 0 h, add-one)
+
+pub puts-done : (bytes : List ℕ) (i : ℕ) (p : Page) → i ≡ length bytes → puts (drop i bytes) p ≡ p
+unfolding puts
+puts-done bytes i p e = rw (e, drop-length bytes)
+
+-- one text after another
+pub puts-append : (s t : List ℕ) (p : Page) → puts (s ++ t) p ≡ puts t (puts s p)
+unfolding puts
+puts-append [] t p = refl
+puts-append (b ∷ s) t p = puts-append s t (put b p)
+
+pub puts-one : (b : ℕ) (p : Page) → puts (b ∷ []) p ≡ put b p
+unfolding puts
+puts-one b p = refl
+
+-- ---- where there is room
+take-one : (out : List ℕ) (n b : ℕ) → n < length out → take (n + 1) (set out n b) ≡ take n out ++ (b ∷ [])
+take-one out n b h = rw (add-one n) (take-suc-set out n b h)
+
+-- the text stands after what was in use, and the bytes after it stay
+pub puts-room : (s out : List ℕ) (n : ℕ) → n + length s ≤ length out → puts s (page n out) ≡ page (n + length s) ((take n out ++ s) ++ drop (n + length s) out)
+unfolding puts
+puts-room [] out n h = let e : n + 0 ≡ n = omega arith in rw (e, append-nil (take n out), take-append-drop n out)
+puts-room (b ∷ s) out n h =
+    let k : n < length out = omega arith in
+    let e : n + 1 + length s ≡ n + suc (length s) = omega arith in
+    ap (puts s) (sym (put-in b n out k))
+    ∙ puts-room s (set out n b) (n + 1) (rw (length-set out n b) (omega arith))
+    ∙ rw (e, take-one out n b k, append-assoc (take n out) (b ∷ []) s, drop-set-lt (n + suc (length s)) out n b (omega arith))
+
+-- .. from the start of the page
+pub puts-first : (s out : List ℕ) → length s ≤ length out → puts s (page 0 out) ≡ page (length s) (s ++ drop (length s) out)
+puts-first s out h = let e : 0 + length s ≡ length s = omega arith in rw e at (puts-room s out 0 (omega arith))

@@ -1,0 +1,2 @@
+// Bytes and numbers, appended to a lent buffer.
+pub mod page;

@@ -1,0 +1,2 @@
+// Answers as document 01's numbers.
+pub mod answers;

@@ -1,0 +1,2 @@
+// A fresh state, as two plain rows.
+pub mod rows;

@@ -1,0 +1,2 @@
+// What comes of a call, laid into plain rows.
+pub mod laying;

@@ -1,0 +1,2 @@
+pub mod Offset
+pub mod Residual

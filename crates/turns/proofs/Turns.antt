@@ -1,0 +1,55 @@
+-- A turn of the samples' loop in two steps: what is written from a settled sample, and the turn as one expression.
+use mathlib.Core.Path.{_≡_, refl}
+use mathlib.Core.Bool.{Bool}
+use mathlib.Core.List.{List}
+use Prim.Native.Nat.{ℕ, _+_, _-_, _*_}
+use lib.IntN.{ℤ}
+use lib.ListN.{set}
+use Rattle.fixed.specs.Shift.{shr32}
+use Rattle.shaping.specs.Output.{pulseOf, xqOut}
+use Rattle.path.specs.declared.structs.Fix.{Fix}
+use Rattle.path.specs.declared.structs.Common.{Common}
+use Rattle.path.specs.declared.structs.Sampled.{Sampled}
+use Rattle.path.specs.Data.{word, Running, running, Rows}
+use Rattle.among.specs.Among.{Rule}
+use Rattle.samples.specs.Settled.{Settled, settledOf}
+use Rattle.samples.specs.Sample.{sample}
+use Rattle.turns.specs.Turn.{tookFrom, took, putAt, put, turn}
+use Rattle.leaving.specs.Leaving.{leaves, emit}
+use Rattle.shared.specs.Shared.{predicted, commonFrom, common}
+use Rattle.places.specs.Places.{down, delayed}
+
+-- what is written, row by row
+pub record Written (f : Fix) (i : ℕ) (now : Bool) (g : ℤ) (p r : ℕ) (s : Sampled) (t : Running) (ltp dgain xq shp out : List ℤ) : Type 0 where
+  pub work : ltp ≡ emit now (t .core .«sLTP_Q15») (f .buf + i - f .«decisionDelay») (s .«Pred_Q15»)
+  pub gain : dgain ≡ set (t .core .«delayedGain_Q10») r (shr32 (f .«Gain_Q16») 6)
+  pub history : xq ≡ emit now (t .xq) (4 * f .«subfr_length» + p) (xqOut (s .«Xq_Q14») g 8)
+  pub shaping : shp ≡ emit now (t .«sLTP_shp_Q14») (4 * f .«subfr_length» + p) (s .«Shape_Q14»)
+  pub pulse : out ≡ emit now (t .pulses) p (pulseOf (s .«Q_Q10»))
+
+-- is `putAt`
+pub written : (f : Fix) (i : ℕ) (now : Bool) (g : ℤ) (p r : ℕ) (s : Sampled) (t : Running) (lpcs : List (List ℤ)) (rings : List (List (List ℤ))) (ltp dgain xq shp out : List ℤ)
+    → Written f i now g p r s t ltp dgain xq shp out
+    → running (record { ps = s .ps; «smpl_buf_idx» = r }) lpcs rings ltp dgain xq shp out ≡ putAt f i now g p r (settledOf s lpcs rings) t
+unfolding putAt
+written f i now g p r s t lpcs rings ltp dgain xq shp out w =
+    let a = w .work in
+    let b = w .gain in
+    let c = w .history in
+    let d = w .shaping in
+    let e = w .pulse in
+    cc
+
+-- sample i with what all paths share, s, the ring going from place r0 to r
+abbrev pub turnWith : Rule → Fix → Rows → ℕ → Running → ℕ → Common → Running
+turnWith rule f v i t r s =
+    putAt f i (leaves f i) (word (t .core .«delayedGain_Q10») (delayed f r)) (f .base + i - f .«decisionDelay») r
+    (sample rule f (v .half) (v .a) (v .ar) s i (t .core .«smpl_buf_idx») r (delayed f r) (t .core .ps))
+    t
+
+pub turn-is : (rule : Rule) (f : Fix) (v : Rows) (x : List ℤ) (i : ℕ) (t : Running)
+    → turnWith rule f v i t (down (t .core .«smpl_buf_idx»))
+    (commonFrom f (v .half .«HarmShapeFIRPacked_Q14») (t .«sLTP_shp_Q14») x i (predicted f (v .b) (t .core .«sLTP_Q15») i))
+    ≡ turn rule f v x i t
+unfolding turn put took tookFrom common
+turn-is rule f v x i t = refl
