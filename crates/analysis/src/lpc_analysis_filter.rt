@@ -3,10 +3,10 @@ ghost use mathlib.Core.Path.{_≡_};
 ghost use Prim.Native.Nat.{_≤_, _<_};
 ghost use lib.ListN.{length};
 ghost use Rattle.analysis.specs.Filter.{prediction as predictionZ, filtered as filteredZ, analysis};
-use fixed::range;
-use fixed::shift;
 use fixed::wrap;
 use products::product;
+use shifts::range;
+use shifts::shift;
 
 // The prediction of the input at `ix` by the `order` inputs before it.
 fn prediction(input: &[i16], b: &[i16], order: usize, ix: usize) -> i32

@@ -13,7 +13,7 @@ use mir.Syntax.{w32}
 use mir.Val.{SFits}
 use Rattle.fixed.specs.Wrap.{modZ, wrap32}
 use Rattle.fixed.specs.Shift.{shr, shl32, rround}
-use Rattle.products.specs.Generator.{rand}
+use Rattle.seeds.specs.Generator.{rand}
 use Rattle.fixed.proofs.Lin.{P, N, eq-of, add-lin, sub-lin-Z, neg-lin, shr-lin, mod-lin, le-lin, le-of-lin, sfits-of-lin}
 use Rattle.fixed.proofs.Wraps.{turns, wrap-lin, wrap32-id, wrap32-fits}
 use Rattle.rfc6716.specs.Excitation.{«offset_Q23», sign, value, nextSeed, negates, signed, seedAfter, Row, pulse}

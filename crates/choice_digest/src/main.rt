@@ -4,10 +4,10 @@
 // The file `stdout` beside src/ was written by the Rust, not by this program: by tests/rust/choice_digest.rs, which runs the same
 // loop over the lines of NSQ_del_dec.rs, cut out unchanged into a function, and over its offset table. That file says how to repeat it.
 use choice::candidate;
-use fixed::shift;
 use fixed::wrap;
-use products::generator;
 use residuals::offset;
+use seeds::generator;
+use shifts::shift;
 
 // The Lambdas where a step of the choice changes its ways, and the ends of the types.
 const NAMED: [i32; 64] = [

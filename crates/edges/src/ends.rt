@@ -6,13 +6,13 @@ ghost use mathlib.Core.List.{List};
 ghost use lib.IntN.{ℤ};
 ghost use Rattle.fixed.specs.Iter.{either};
 ghost use Rattle.edges.specs.Flush.{bestOf, raisedPath, otherPath, othersRaised, fitMiddle, fitLast, flushed as flushedZ, outs};
-use fixed::shift;
 use fixed::wrap;
 use path::structs::Path;
 use path::structs::Q_Q10;
 use path::structs::SHAPE_Q14;
 use path::structs::XQ_Q14;
 use shaping::output;
+use shifts::shift;
 
 // The path of least running cost, the lowest on ties.
 pub fn best(ps: [Path; 4], n: usize) -> usize

@@ -4,11 +4,11 @@
 // The file `stdout` was not made by this program. tests/rust/fixed_table.rs writes the same tables with the Rust
 // expressions themselves (`wrapping_add`, `as i16`, `>>`, ..), built without overflow checks:
 //     rustc -O -C overflow-checks=no tests/rust/fixed_table.rs -o fixed_table && ./fixed_table > crates/fixed_table/stdout
-use fixed::range;
-use fixed::shift;
 use fixed::wrap;
-use products::generator;
 use products::product;
+use seeds::generator;
+use shifts::range;
+use shifts::shift;
 
 const WORDS: [i32; 24] = [
     -2147483648,

@@ -2,9 +2,9 @@
 ghost use mathlib.Core.Path.{_≡_};
 ghost use Prim.Native.Nat.{_≤_, _<_};
 ghost use Rattle.harmonic.specs.Harmonic.{packedGain, ltpTerm};
-use fixed::shift;
 use fixed::wrap;
 use products::product;
+use shifts::shift;
 
 // A quarter of the gain in the low half and a half of it in the high half. The two are joined by OR: a negative gain's
 // quarter has its sign in all the high bits, where a sum would give another word.

@@ -1,9 +1,9 @@
 // The levels of the two pulses, each with its size times Lambda: the four cases of NSQ_del_dec.rs.
 ghost use mathlib.Core.Path.{_≡_};
 ghost use Rattle.levels.specs.Levels.{above as aboveZ, atZero, atMinusOne, below as belowZ, tried as triedZ};
-use fixed::shift;
 use fixed::wrap;
 use products::product;
+use shifts::shift;
 
 // The lower and the upper level, and what |level| * Lambda is of each before the noise is added.
 pub struct Pair {

@@ -1,8 +1,8 @@
 // The lower of the two pulses that a residual is tried with.
 ghost use mathlib.Core.Path.{_≡_};
 ghost use Rattle.levels.specs.Levels.{biased as biasedZ, «q1_Q0»};
-use fixed::shift;
 use fixed::wrap;
+use shifts::shift;
 
 // Rounded towards zero by `bias` more, where a pulse is dear.
 fn biased(q: i32, bias: i32) -> i32

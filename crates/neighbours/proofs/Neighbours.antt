@@ -10,8 +10,8 @@ use Rattle.fixed.specs.Shift.{shr, shl32, shr32, rround, or32, clz32}
 use Rattle.fixed.specs.Wrap.{wrapTo, wrap32, wrap16, wrap8}
 use Rattle.fixed.specs.Range.{clamp, sat16, minZ, abs32}
 use Rattle.products.specs.Product.{smulbb, smlabb, smulwb, smlawb, smulwt, smlawt, smulww, smlaww, smmul}
-use Rattle.products.specs.Generator.{rand}
-use Rattle.silk.specs.Inlines.{headrm, nrm, «b32_inv», «lshift_SAT32», shifted, «err_Q32», refined, «silk_INVERSE32_varQ», «result_1», rest, «result_2», «silk_DIV32_varQ»}
+use Rattle.seeds.specs.Generator.{rand}
+use Rattle.inverses.specs.Inlines.{headrm, nrm, «b32_inv», «lshift_SAT32», shifted, «err_Q32», refined, «silk_INVERSE32_varQ», «result_1», rest, «result_2», «silk_DIV32_varQ»}
 use Rattle.silk.specs.Gains.{atLeastOne, «inv_gain_Q31», «inv_gain_Q26», «x_sc_Q10», «ltp_scaled_inv_gain», «gain_adj_Q16»}
 use Rattle.analysis.specs.Filter.{prediction, filtered, analysis}
 use Rattle.silk.specs.State.{zeros, freshLag, freshState}

@@ -2,8 +2,8 @@
 ghost use Prim.Native.Nat.{_<_};
 use crate::digest;
 use crate::digest::Sum;
-use fixed::range;
 use fixed::wrap;
+use shifts::range;
 use silk::structs::NsqState;
 
 // A word and a number on a line.

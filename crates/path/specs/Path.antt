@@ -6,7 +6,7 @@ use lib.ListN.{getD}
 use lib.IntN.{ℤ, _+ℤ_, _-ℤ_}
 use Rattle.fixed.specs.Wrap.{wrap32, wrap16}
 use Rattle.fixed.specs.Shift.{shl32}
-use Rattle.products.specs.Generator.{rand}
+use Rattle.seeds.specs.Generator.{rand}
 use Rattle.shaping.specs.Taps.{shortPrediction}
 use Rattle.warped.specs.WarpedFilter.{Filter, warpedFilter}
 use Rattle.shaping.specs.NoiseTerms.{arTerm, lfTerm}

@@ -18,12 +18,12 @@ use crate::structs::SHAPE_Q14;
 use crate::structs::Terms;
 use crate::structs::XQ_Q14;
 use choice::candidate;
-use fixed::shift;
 use fixed::wrap;
-use products::generator;
 use residuals::residual;
+use seeds::generator;
 use shaping::noise_terms;
 use shaping::short_prediction;
+use shifts::shift;
 use warped::warped_filter;
 
 impl Candidate {

@@ -11,7 +11,6 @@ use Rattle.products.proofs.product.smlawt.Reads as smlawt
 use Rattle.products.proofs.product.smulww.Reads as smulww
 use Rattle.products.proofs.product.smlaww.Reads as smlaww
 use Rattle.products.proofs.product.smmul.Reads as smmul
-use Rattle.products.proofs.generator.rand.Reads as rand
 
 pub mul16-unique : (κs a r s e : _) → mul16.Post κs a r e → mul16.Post κs a s e → r ≡ s
 mul16-unique κs a r s e p q = p ∙ sym q
@@ -42,6 +41,3 @@ smlaww-unique κs a r s e p q = p ∙ sym q
 
 pub smmul-unique : (κs a r s e : _) → smmul.Post κs a r e → smmul.Post κs a s e → r ≡ s
 smmul-unique κs a r s e p q = p ∙ sym q
-
-pub rand-unique : (κs a r s e : _) → rand.Post κs a r e → rand.Post κs a s e → r ≡ s
-rand-unique κs a r s e p q = p ∙ sym q

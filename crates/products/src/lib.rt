@@ -1,3 +1,2 @@
-// The products of SILK's fixed point and its generator, one small total function for each, as in `fixed`.
-pub mod generator;
+// The products of SILK's fixed point, one small total function for each, as in `fixed`.
 pub mod product;

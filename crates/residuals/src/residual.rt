@@ -1,9 +1,9 @@
 // The residual before the choice, and what is made of a chosen level after it. The generator's sign acts on both.
 ghost use mathlib.Core.Path.{_≡_};
 ghost use Rattle.residuals.specs.Residual.{signedResidual, signedExcitation, pulseOf, seedWith};
-use fixed::range;
-use fixed::shift;
 use fixed::wrap;
+use shifts::range;
+use shifts::shift;
 
 // The residual, negated where the seed is negative, and only then held to its range, which is not symmetric.
 pub fn signed_residual(seed: i32, r: i32) -> i32

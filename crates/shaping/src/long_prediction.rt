@@ -4,7 +4,7 @@ ghost use Prim.Native.Nat.{_≤_, _<_};
 ghost use lib.ListN.{length};
 ghost use Rattle.shaping.specs.Taps.{longPrediction};
 use crate::taps;
-use fixed::shift;
+use shifts::shift;
 
 // The Rust's pred_lag_ptr is `row` from the word `at` on, read backwards.
 pub fn ltp_prediction(row: &[i32; 640], at: usize, b: &[i16]) -> i32

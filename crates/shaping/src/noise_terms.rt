@@ -1,9 +1,9 @@
 // The two terms of the shaped noise that a path works out from its own words.
 ghost use mathlib.Core.Path.{_≡_};
 ghost use Rattle.shaping.specs.NoiseTerms.{arTerm, lfTerm};
-use fixed::shift;
 use fixed::wrap;
 use products::product;
+use shifts::shift;
 
 // The spectral term: the warped filter's sum `n`, with the tilt. Of the tilt only the low 16 bits are read.
 pub fn n_AR(n: i32, lf_ar: i32, tilt: i32) -> i32

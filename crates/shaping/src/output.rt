@@ -1,10 +1,10 @@
 // What a coded sample hands out: its pulse, and the sample that the decoder will have.
 ghost use mathlib.Core.Path.{_≡_};
 ghost use Rattle.shaping.specs.Output.{pulseOf, xqOut};
-use fixed::range;
-use fixed::shift;
 use fixed::wrap;
 use products::product;
+use shifts::range;
+use shifts::shift;
 
 // The level's pulse: the level in whole units, rounded.
 pub fn pulse_of(q_q10: i32) -> i8

@@ -1,8 +1,8 @@
 // What is left of a sample to code.
 ghost use mathlib.Core.Path.{_≡_};
 ghost use Rattle.shaping.specs.Residual.{residual as residualZ};
-use fixed::shift;
 use fixed::wrap;
+use shifts::shift;
 
 // The scaled sample less its prediction, with the shaped noise.
 pub fn residual(n_ar: i32, n_lf: i32, n_ltp: i32, lpc_pred: i32, x_q10: i32) -> i32

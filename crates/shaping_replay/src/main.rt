@@ -8,9 +8,9 @@ mod answers;
 mod digest;
 mod words;
 
-use fixed::range;
 use fixed::wrap;
-use products::generator;
+use seeds::generator;
+use shifts::range;
 
 const FUNCTIONS: usize = 12;
 

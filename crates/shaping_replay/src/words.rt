@@ -1,7 +1,7 @@
 // The arguments, made from a seed.
-use fixed::shift;
 use fixed::wrap;
-use products::generator;
+use seeds::generator;
+use shifts::shift;
 
 // The seed of the next argument.
 pub fn next(seed: i32) -> i32 {

@@ -2,7 +2,7 @@
 use mathlib.Core.Path.{_≡_, refl}
 use mathlib.Core.List.{[], _∷_}
 use lib.IntN.{pos, negsuc}
-use Rattle.sheet_form.specs.Number.{is, unreadable, got, bad, separator, inWord, digit, run, skip, word, afterWord, value, decimal, magnitude, signed, numberOf, within, inRange, andRest, number}
+use Rattle.sheet_words.specs.Number.{is, unreadable, got, bad, separator, inWord, digit, run, skip, word, afterWord, value, decimal, magnitude, signed, numberOf, within, inRange, andRest, number}
 use Rattle.sheet_form.specs.Sections.{i16, row, section, numbers, andThen, before, orFault, fault, sections, layout, reading}
 
 -- `-0`, `007`, `-32768`; `+5`, `-`, `5-3`, and an eleventh digit

@@ -14,7 +14,7 @@ use mir.Syntax.{w16}
 use mir.Val.{SFits}
 use mir.Facts.{sfits-lit}
 use Rattle.silk.specs.State.{zeros}
-use Rattle.sheet_form.specs.Number.{Range, Read, got, bad, number}
+use Rattle.sheet_words.specs.Number.{Range, Read, got, bad, number}
 use Rattle.sheet_form.specs.Sections.{Kind, andThen, before, numbers, section, row, i16}
 use Rattle.sheet_form.specs.Rows.{Rest, left, stopped, padded, taken, takeSection, Halves}
 use Rattle.sheet_form.proofs.Numbers.{number-fits, number-range}

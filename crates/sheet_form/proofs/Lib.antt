@@ -1,8 +1,5 @@
-pub mod Runs
 pub mod Variants
-pub mod Values
-pub mod Signs
-pub mod Words
+pub mod NextWord
 pub mod Numbers
 pub mod Fitting
 pub mod Whole

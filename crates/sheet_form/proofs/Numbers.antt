@@ -14,7 +14,7 @@ use mir.Val.{SFits}
 use Rattle.fixed.specs.Iter.{either}
 use Rattle.fixed.proofs.Lin.{lt-false, sfits-lin, sfits-of-lin}
 use Rattle.silk.specs.State.{zeros}
-use Rattle.sheet_form.specs.Number.{Maybe, is, unreadable, Range, Read, got, bad, within, inRange, andRest, numberOf, word, skip, afterWord, number}
+use Rattle.sheet_words.specs.Number.{Maybe, is, unreadable, Range, Read, got, bad, within, inRange, andRest, numberOf, word, skip, afterWord, number}
 use Rattle.sheet_form.specs.Sections.{andThen, before, numbers}
 use Rattle.sheet_form.specs.Rows.{padded, row32, Took, taken}
 use Rattle.sheet_form.specs.declared.section.Place.{Place}

@@ -11,7 +11,7 @@ use borrow.Author.Tests.{eq-eqb, ne-eqb}
 use Rattle.fixed.specs.Iter.{either}
 use Rattle.silk.specs.declared.structs.Settings.{Settings}
 use Rattle.settings_row.specs.Named.{settingsOf}
-use Rattle.sheet_form.specs.Number.{Read, got, bad, run, separator}
+use Rattle.sheet_words.specs.Number.{Read, got, bad, run, separator}
 use Rattle.sheet_form.specs.Sections.{Kind, Reading, fault, sheet, settings, row, i16, i32, layout, section, after, orFault, ended, sections, reading}
 use Rattle.sheet_form.specs.Rows.{Rest, left, stopped, taken, takeSection, row16, row32, padded}
 use Rattle.sheet_form.specs.Sheets.{sheetWith, startRest, endOf}
@@ -19,7 +19,7 @@ use Rattle.sheet_form.specs.declared.rows.Row16.{Row16}
 use Rattle.sheet_form.specs.declared.rows.Row32.{Row32}
 use Rattle.sheet_form.specs.declared.sheet.Sheet.{Sheet}
 use Rattle.sheet_form.specs.declared.sheet.Verdict.{Verdict}
-use Rattle.sheet_form.proofs.Runs.{run-le}
+use Rattle.sheet_words.proofs.Runs.{run-le}
 use Rattle.sheet_form.proofs.Fitting.{padded-at}
 
 -- what these sections of the rest are found to be, of which the first is section k

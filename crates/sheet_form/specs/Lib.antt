@@ -1,4 +1,3 @@
-pub mod Number
 pub mod Sections
 pub mod Found
 pub mod Rows

@@ -8,7 +8,7 @@ use mir.Syntax.{w16}
 use mir.Val.{SFits}
 use lib.IntN.{ℤ, pos}
 use Rattle.silk.specs.State.{zeros}
-use Rattle.sheet_form.specs.Number.{Read, got, bad}
+use Rattle.sheet_words.specs.Number.{Read, got, bad}
 use Rattle.sheet_form.specs.Sections.{Kind, section}
 use Rattle.sheet_form.specs.declared.section.Place.{Place}
 use Rattle.sheet_form.specs.declared.section.Place.the-variants as place

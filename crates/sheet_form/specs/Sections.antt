@@ -7,7 +7,7 @@ use lib.ListN.{length}
 use lib.IntN.{ℤ, pos, negsuc, natAbs}
 use lib.Dec.{ltb, eqb}
 use Rattle.fixed.specs.Iter.{either}
-use Rattle.sheet_form.specs.Number.{Range, Read, got, bad, run, separator, number}
+use Rattle.sheet_words.specs.Number.{Range, Read, got, bad, run, separator, number}
 
 -- what a section's count may be, and what its numbers may be
 pub record Kind : Type 0 where

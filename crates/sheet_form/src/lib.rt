@@ -1,4 +1,4 @@
-// Call sheets of document 01: reading one from bytes, and printing.
+// Call sheets of document 01: reading one from bytes.
 mod blank;
 mod number;
 pub mod rows;

@@ -5,7 +5,7 @@ ghost use Prim.Native.Nat.{_≤_};
 ghost use mir.Syntax.{w32};
 ghost use mir.Val.{SFits};
 ghost use lib.ListN.{drop};
-ghost use Rattle.sheet_form.specs.Number.{number};
+ghost use Rattle.sheet_words.specs.Number.{number};
 ghost use Rattle.sheet_form.specs.Sections.{numbers as numbersZ, section as sectionZ, settings, row, i16, i32};
 ghost use Rattle.sheet_form.specs.Found.{range};
 ghost use Rattle.sheet_form.specs.Rows.{Took, Took16, Halves, restAt, taken, takeSection, row32, kind};

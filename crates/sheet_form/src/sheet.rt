@@ -6,13 +6,13 @@ ghost use Rattle.sheet_form.specs.Sections.{reading, fault};
 ghost use Rattle.sheet_form.specs.Rows.{restAt};
 ghost use Rattle.sheet_form.specs.Sheets.{sheetOf, withDefault, startRest, verdictOf, endOf};
 use crate::blank;
-use crate::number;
-use crate::number::Class;
 use crate::rows::Row16;
 use crate::rows::Row32;
 use crate::section;
 use crate::section::Place;
 use settings_row::named;
+use sheet_words::words;
+use sheet_words::words::Class;
 use silk::structs::Settings;
 
 // The bytes that a sheet can have, at most.
@@ -59,7 +59,7 @@ fn end(text: &[u8], from: Place) -> Verdict
 {
     match from {
         Place::At(at) => {
-            if text.len() <= number::end_of_run(text, at, Class::Separator) {
+            if text.len() <= words::end_of_run(text, at, Class::Separator) {
                 Verdict::Good
             } else {
                 Verdict::Fault(11)

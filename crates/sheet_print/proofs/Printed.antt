@@ -11,10 +11,10 @@ use lib.ListN.{length, length-append}
 use lib.Seq.{take-append-seam, drop-append-seam}
 use lib.IntN.{ℤ, pos, negsuc, natAbs}
 use Rattle.fixed.specs.Iter.{either}
-use Rattle.sheet_form.specs.Number.{is, Range, got, separator, inWord, digit, run, skip, word, afterWord, value, magnitude, signed, numberOf, within, inRange, andRest, number}
-use Rattle.sheet_form.specs.Number as form
-use Rattle.sheet_form.proofs.Values.{first-digit, digit-at}
-use Rattle.sheet_form.proofs.Words.{number-of-plain}
+use Rattle.sheet_words.specs.Number.{is, Range, got, separator, inWord, digit, run, skip, word, afterWord, value, magnitude, signed, numberOf, within, inRange, andRest, number}
+use Rattle.sheet_words.specs.Number as form
+use Rattle.sheet_words.proofs.Values.{first-digit, digit-at}
+use Rattle.sheet_words.proofs.FirstByte.{number-of-plain}
 use Rattle.pages.specs.Decimal.{digitsUpTo, digits, decimal}
 use Rattle.pages.proofs.Digits.{up-one, up-more, tenth}
 

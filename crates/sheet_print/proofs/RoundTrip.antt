@@ -10,7 +10,7 @@ use lib.Dec.{T, ltb, ltb→lt}
 use lib.IntN.{ℤ, pos, negsuc, natAbs}
 use lib.Signed.{ltZ}
 use Rattle.fixed.proofs.Lin.{P, N, lt-false}
-use Rattle.sheet_form.specs.Number.{is, Range, got, separator, run, within, number}
+use Rattle.sheet_words.specs.Number.{is, Range, got, separator, run, within, number}
 use Rattle.sheet_form.specs.Sections.{Kind, sheet, andThen, before, numbers, section, orFault, after, ended, sections, reading, layout, settings, row, i16, i32}
 use Rattle.sheet_text.specs.Text.{spaced, sectionText, sheetText}
 use Rattle.pages.specs.Decimal.{decimal}

@@ -1,2 +1,2 @@
-// Printing: answers, faults and call sheets of document 01, as bytes in a lent buffer.
+// Printing: call sheets of document 01, as bytes in a lent buffer.
 pub mod sheet;

@@ -1,5 +1,3 @@
--- Head: the normalisation. Laws: two readings of one step. Told: the numbers of the two records. Unique: each contract leaves one outcome.
-pub mod Head
-pub mod Laws
+-- Told: the numbers of the two records. Unique: each contract leaves one outcome.
 pub mod Told
 pub mod Unique

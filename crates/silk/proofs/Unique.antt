@@ -1,19 +1,11 @@
 -- Any two outcomes that a public function's contract allows are equal: each contract leaves one. Assumes nothing.
 use mathlib.Core.Path.{_≡_, sym, _∙_}
-use Rattle.silk.proofs.inlines.silk_INVERSE32_varQ.Reads as silk-INVERSE32-varQ
-use Rattle.silk.proofs.inlines.silk_DIV32_varQ.Reads as silk-DIV32-varQ
 use Rattle.silk.proofs.gains.inv_gain_Q31.Reads as inv-gain-Q31
 use Rattle.silk.proofs.gains.inv_gain_Q26.Reads as inv-gain-Q26
 use Rattle.silk.proofs.gains.x_sc_Q10.Reads as x-sc-Q10
 use Rattle.silk.proofs.gains.ltp_scaled_inv_gain.Reads as ltp-scaled-inv-gain
 use Rattle.silk.proofs.gains.gain_adj_Q16.Reads as gain-adj-Q16
 use Rattle.silk.proofs.structs.NsqState.fresh.Reads as fresh
-
-pub silk-INVERSE32-varQ-unique : (κs a r s e : _) → silk-INVERSE32-varQ.Post κs a r e → silk-INVERSE32-varQ.Post κs a s e → r ≡ s
-silk-INVERSE32-varQ-unique κs a r s e p q = p ∙ sym q
-
-pub silk-DIV32-varQ-unique : (κs a r s e : _) → silk-DIV32-varQ.Post κs a r e → silk-DIV32-varQ.Post κs a s e → r ≡ s
-silk-DIV32-varQ-unique κs a r s e p q = p ∙ sym q
 
 pub inv-gain-Q31-unique : (κs a r s e : _) → inv-gain-Q31.Post κs a r e → inv-gain-Q31.Post κs a s e → r ≡ s
 inv-gain-Q31-unique κs a r s e p q = p ∙ sym q

@@ -1,3 +1,2 @@
-pub mod Inlines
 pub mod Gains
 pub mod State

@@ -3,10 +3,10 @@ ghost use mathlib.Core.Path.{_≡_};
 ghost use lib.IntN.{pos};
 ghost use lib.Signed.{_≤ℤ_};
 ghost use Rattle.silk.specs.Gains.{atLeastOne, «inv_gain_Q31» as invGainQ31, «inv_gain_Q26» as invGainQ26, «x_sc_Q10» as xScQ10, «ltp_scaled_inv_gain» as ltpScaledInvGain, «gain_adj_Q16» as gainAdjQ16};
-use crate::inlines;
-use fixed::shift;
 use fixed::wrap;
+use inverses::inlines;
 use products::product;
+use shifts::shift;
 
 // The gain, or 1 where it is below.
 fn at_least_one(gain: i32) -> i32

@@ -2,9 +2,9 @@
 ghost use Prim.Native.Nat.{_<_};
 ghost use lib.IntN.{pos};
 ghost use lib.Signed.{_≤ℤ_};
-use fixed::range;
-use fixed::shift;
 use fixed::wrap;
+use shifts::range;
+use shifts::shift;
 
 // x, or 1 where it is below.
 fn positive(x: i32) -> i32

@@ -9,9 +9,9 @@ mod arguments;
 mod numbers;
 mod rows;
 
-use products::generator;
+use inverses::inlines;
+use seeds::generator;
 use silk::gains;
-use silk::inlines;
 
 fn main() {
     inverses();

@@ -2,9 +2,9 @@
 ghost use Prim.Native.Nat.{_≤_};
 use crate::numbers;
 use analysis::lpc_analysis_filter;
-use fixed::shift;
 use fixed::wrap;
-use products::generator;
+use seeds::generator;
+use shifts::shift;
 
 // Rows and coefficients of each kind.
 pub fn filter_rows() {

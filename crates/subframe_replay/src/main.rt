@@ -12,7 +12,7 @@ mod settings;
 mod subframe;
 mod words;
 
-use products::generator;
+use seeds::generator;
 
 fn main() {
     let mut seed: i32 = 1;

@@ -1,7 +1,7 @@
 // Words made from a seed.
-use fixed::shift;
 use fixed::wrap;
-use products::generator;
+use seeds::generator;
+use shifts::shift;
 
 // The seed of row number `by`.
 pub fn seed_of(seed: i32, by: i32) -> i32 {

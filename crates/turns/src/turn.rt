@@ -6,7 +6,6 @@ ghost use Rattle.path.specs.Data.{rows, running};
 ghost use Rattle.among.specs.Among.{keepsFirst};
 ghost use Rattle.places.specs.Places.{Fits};
 ghost use Rattle.turns.specs.Turn.{turn as turnZ};
-use fixed::shift;
 use leaving::emission;
 use path::structs::Fix;
 use path::structs::Halves;
@@ -14,6 +13,7 @@ use path::structs::Work;
 use places::ring;
 use samples::sample;
 use shared::common;
+use shifts::shift;
 
 // Sample i of a subframe.
 pub fn turn(

@@ -5,7 +5,7 @@ use native.Mathlib.Omega.{arith}
 use borrow.Author.Needs.{needs}
 use denote.Ref.{now}
 use lib.ListN.{length, take}
-use Rattle.prefixes.proofs.Taken.{take-all}
+use lib.Seq.{take-all}
 use Rattle.prefixes.proofs.prefix.first32.Statement.{statement}
 use Rattle.prefixes.proofs.prefix.first32.Tie as tie
 
@@ -14,7 +14,7 @@ returns c =
     let a = c .before .before .args in
     let few = c .if1 .taken in
     let whole : length (now (a .row)) ≡ 320 = c .before .all .given .0 in
-    sym (take-all (now (a .row)) (a .n) (omega arith))
+    sym (take-all (a .n) (now (a .row)) (omega arith))
 
 sub-result : tie.Need-sub-result
 sub-result c = search needs

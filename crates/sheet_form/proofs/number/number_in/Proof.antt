@@ -7,11 +7,12 @@ use lib.IntN.{ℤ}
 use mir.Syntax.{w64}
 use denote.Ref.{now}
 use Rattle.fixed.proofs.Fit.{back, read}
-use Rattle.sheet_form.specs.Number.{Maybe, inWord, inRange, andRest}
-use Rattle.sheet_form.specs.Found.{range, wordFound, numberFound}
-use Rattle.sheet_form.proofs.Runs.{run-le}
-use Rattle.sheet_form.proofs.Words.{number-at, number-none, found-at}
-use Rattle.sheet_form.proofs.Variants.{no-word}
+use Rattle.sheet_words.specs.Number.{Maybe, inWord, inRange, andRest}
+use Rattle.sheet_form.specs.Found.{range, numberFound}
+use Rattle.sheet_words.specs.Words.{wordFound}
+use Rattle.sheet_words.proofs.Runs.{run-le}
+use Rattle.sheet_form.proofs.NextWord.{number-at, number-none, found-at}
+use Rattle.sheet_words.proofs.Classes.{no-word}
 use Rattle.sheet_form.proofs.number.number_in.Statement.{statement}
 use Rattle.sheet_form.proofs.number.number_in.Tie as tie
 

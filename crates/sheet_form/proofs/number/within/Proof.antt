@@ -1,7 +1,7 @@
 -- `sheet_form::number::within` meets its contract. Assumes nothing.
-use Rattle.sheet_form.proofs.Signs.{test64}
+use Rattle.sheet_words.proofs.Signs.{test64}
 use Rattle.fixed.proofs.Fit.{read}
-use Rattle.sheet_form.specs.Number.{within}
+use Rattle.sheet_words.specs.Number.{within}
 use Rattle.sheet_form.proofs.number.within.Statement.{statement}
 use Rattle.sheet_form.proofs.number.within.Tie as tie
 

@@ -10,7 +10,7 @@ use Rattle.fixed.proofs.Fit.{back, read}
 use Rattle.sheet_form.specs.Sections.{numbers}
 use Rattle.sheet_form.specs.Found.{numberFound}
 use Rattle.sheet_form.specs.Rows.{kind}
-use Rattle.sheet_form.proofs.Signs.{small-read}
+use Rattle.sheet_words.proofs.Signs.{small-read}
 use Rattle.sheet_form.proofs.Numbers.{took-bad}
 use Rattle.sheet_form.proofs.Variants.{no-number}
 use Rattle.sheet_form.proofs.Fitting.{section-got, section-bad, count-small}

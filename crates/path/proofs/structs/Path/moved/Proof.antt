@@ -4,7 +4,7 @@ use borrow.Author.Needs.{needs}
 use denote.Ref.{now}
 use Rattle.fixed.proofs.Fit.{got32, got16, read}
 use Rattle.shaping.specs.NoiseTerms.{arTerm}
-use Rattle.products.specs.Generator.{rand}
+use Rattle.seeds.specs.Generator.{rand}
 use Rattle.path.specs.Path.{moved, filterOf}
 use Rattle.path.proofs.Told.{path, halves}
 use Rattle.path.proofs.structs.Path.moved.Statement.{statement}
