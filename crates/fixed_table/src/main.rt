@@ -1,4 +1,4 @@
-// Tables of every function of `fixed` on edge values: the ends of each type, numbers around each power of two that is a
+// Tables of every function of `fixed`, `shifts`, `products` and `seeds` on edge values: the ends of each type, numbers around each power of two that is a
 // shift, a rounding or a saturation edge, and two words with mixed bits. One line of results for each first argument.
 //
 // The file `stdout` was not made by this program. tests/rust/fixed_table.rs writes the same tables with the Rust

@@ -1,5 +1,6 @@
 -- One path at one sample, up to its two candidates: silk_noise_shape_quantizer_del_dec of NSQ_del_dec.rs, the body of its loop over the paths,
--- from the generator's step to the second candidate's words. The terms are those of the crates `shaping` and `choice`. Assumes nothing.
+-- from the generator's step to the second candidate's words. Its terms are those of the crates `shaping`, `warped`, `residuals` and `choice`.
+-- Assumes nothing.
 use Prim.Native.Nat.{ℕ, _+_}
 use mathlib.Core.List.{List, [], _∷_}
 use lib.ListN.{getD}

@@ -1,5 +1,5 @@
 -- The change of gain before a subframe: silk_nsq_del_dec_scale_states of NSQ_del_dec.rs, but its scaling of the input, which stands at the sample
--- (`common` of Subframe), and its inverse gains, which are those of the crate `silk`. Assumes nothing.
+-- (`common` of the crate `shared`), and its inverse gains, which are those of the crate `silk`. Assumes nothing.
 use Prim.Native.Nat.{ℕ, _+_, _-_, _*_}
 use mathlib.Core.Bool.{Bool}
 use mathlib.Core.List.{List}

@@ -1,5 +1,5 @@
-// Replays answers of the Rust to every public function of `shaping`: for each one a digest (FNV-1a, 64 bits) of 2000 answers,
-// and the first four of them. The arguments are made from a seed, with many words at the ends of their range.
+// Replays answers of the Rust to every public function of `shaping`, `harmonic` and `warped`: for each one a digest (FNV-1a,
+// 64 bits) of 2000 answers, and the first four of them. The arguments are made from a seed, with many words at the ends of their range.
 //
 // The file `stdout` was not made by this program. tests/rust/shaping_replay.rs makes the same arguments and answers by the
 // lines of `NSQ_del_dec.rs` (unopus 0.0.1) themselves, cut out word for word, and is built without overflow checks:

@@ -1,6 +1,6 @@
 // Replays answers of the Rust (unopus 0.0.1): what this program prints is held to the file `stdout` beside it, which the
 // Rust made. Both sides make the same arguments: numbers around every power of two, and what the generator of crate
-// `fixed` gives from a seed.
+// `seeds` gives from a seed.
 //
 // To make `stdout` anew, build tests/rust/silk_replay.rs for release over the crate's `src/silk` and keep what it prints.
 // It calls `silk_INVERSE32_varQ`, `silk_DIV32_varQ` and `silk_LPC_analysis_filter` of the crate itself, and has the lines
