@@ -6,7 +6,7 @@ use mathlib.Core.List.{List, []}
 use lib.ListN.{getD, set, length, length-set}
 use lib.IntN.{ℤ}
 use Rattle.fixed.proofs.Iters.{iter-rel}
-use Rattle.shaping.specs.Output.{pulseOf}
+use Rattle.noise.specs.Output.{pulseOf}
 use Rattle.path.specs.Data.{word, Running, ringQ, ringXq, ringShape}
 use Rattle.edges.specs.Flush.{bestOf, fitMiddle, Outs, flushAt, flushTurn, flushed}
 use Rattle.frame.specs.Frame.{outsOf, flushedRun, middleBy}

@@ -7,7 +7,7 @@ use mathlib.Core.List.{List}
 use lib.Dec.{leb}
 use borrow.Author.Tests.{leb-true, leb-false}
 use lib.IntN.{ℤ}
-use Rattle.shaping.specs.Output.{pulseOf}
+use Rattle.noise.specs.Output.{pulseOf}
 use Rattle.path.specs.declared.structs.Fix.{Fix}
 use Rattle.path.specs.Data.{word, Running, Rows}
 use Rattle.among.specs.Among.{Rule}

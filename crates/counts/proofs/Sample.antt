@@ -14,7 +14,7 @@ use Rattle.fixed.specs.Wrap.{wrap16}
 use Rattle.fixed.proofs.Iters.{iter-same, either-all}
 use Rattle.shaping.specs.Taps.{tap, tapCount, shortPrediction}
 use Rattle.warped.specs.WarpedFilter.{Filter, write, turn, begin, warpedFilter}
-use Rattle.shaping.specs.NoiseTerms.{arTerm}
+use Rattle.noise.specs.NoiseTerms.{arTerm}
 use Rattle.path.specs.declared.structs.Path.{Path}
 use Rattle.path.specs.declared.structs.Fix.{Fix}
 use Rattle.path.specs.declared.structs.Common.{Common}

@@ -13,7 +13,7 @@ use lib.IntN.{ℤ}
 use Rattle.fixed.specs.Iter.{either}
 use Rattle.fixed.proofs.Iters.{iter-rel}
 use Rattle.harmonic.specs.Harmonic.{shapedLag, ltpTerm}
-use Rattle.shaping.specs.Output.{pulseOf, xqOut}
+use Rattle.noise.specs.Output.{pulseOf, xqOut}
 use Rattle.path.specs.declared.structs.Fix.{Fix}
 use Rattle.path.specs.declared.structs.Common.{Common}
 use Rattle.path.specs.Data.{word, Paths, Core, Running, Rows}

@@ -10,7 +10,7 @@ use lib.Dec.{eqb}
 use Rattle.fixed.specs.Iter.{iter, either}
 use Rattle.fixed.specs.Wrap.{wrap32}
 use Rattle.fixed.specs.Shift.{shr32}
-use Rattle.shaping.specs.Output.{pulseOf, xqOut}
+use Rattle.noise.specs.Output.{pulseOf, xqOut}
 use Rattle.path.specs.declared.structs.Path.{Path}
 use Rattle.path.specs.Data.{word, noPath, paths, Running, ringQ, ringXq, ringShape}
 use Rattle.path.specs.Taken.{penalty}

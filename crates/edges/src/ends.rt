@@ -7,11 +7,11 @@ ghost use lib.IntN.{ℤ};
 ghost use Rattle.fixed.specs.Iter.{either};
 ghost use Rattle.edges.specs.Flush.{bestOf, raisedPath, otherPath, othersRaised, fitMiddle, fitLast, flushed as flushedZ, outs};
 use fixed::wrap;
+use noise::output;
 use path::structs::Path;
 use path::structs::Q_Q10;
 use path::structs::SHAPE_Q14;
 use path::structs::XQ_Q14;
-use shaping::output;
 use shifts::shift;
 
 // The path of least running cost, the lowest on ties.

@@ -2,11 +2,11 @@
 ghost use mathlib.Core.Path.{_≡_};
 ghost use Prim.Native.Nat.{_+_, _-_, _*_, _<_, _≤_};
 ghost use lib.ListN.{length};
-ghost use Rattle.shaping.specs.Output.{pulseOf, xqOut};
+ghost use Rattle.noise.specs.Output.{pulseOf, xqOut};
 ghost use Rattle.places.specs.Places.{Fits};
 ghost use Rattle.leaving.specs.Leaving.{leaves as leavesZ, emit as emitZ};
+use noise::output;
 use path::structs::Fix;
-use shaping::output;
 
 // Whether a sample leaves at i.
 fn leaves(f: Fix, i: usize) -> bool

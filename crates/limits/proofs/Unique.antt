@@ -3,25 +3,9 @@
 use mathlib.Core.Path.{_≡_, _∙_, sym}
 use Rattle.limits.proofs.count.count.Reads as count
 use Rattle.limits.proofs.gains.gains_refused.Reads as gains-refused
-use Rattle.limits.proofs.settings.lengths_refused.Reads as lengths-refused
-use Rattle.limits.proofs.settings.orders_refused.Reads as orders-refused
-use Rattle.limits.proofs.settings.paths_refused.Reads as paths-refused
-use Rattle.limits.proofs.settings.kinds_refused.Reads as kinds-refused
 
 pub count-unique : (κs a r s e : _) → count.Post κs a r e → count.Post κs a s e → r ≡ s
 count-unique κs a r s e p q = p ∙ sym q
 
 pub gains-refused-unique : (κs a r s e : _) → gains-refused.Post κs a r e → gains-refused.Post κs a s e → r ≡ s
 gains-refused-unique κs a r s e p q = p ∙ sym q
-
-pub lengths-refused-unique : (κs a r s e : _) → lengths-refused.Post κs a r e → lengths-refused.Post κs a s e → r ≡ s
-lengths-refused-unique κs a r s e p q = p ∙ sym q
-
-pub orders-refused-unique : (κs a r s e : _) → orders-refused.Post κs a r e → orders-refused.Post κs a s e → r ≡ s
-orders-refused-unique κs a r s e p q = p ∙ sym q
-
-pub paths-refused-unique : (κs a r s e : _) → paths-refused.Post κs a r e → paths-refused.Post κs a s e → r ≡ s
-paths-refused-unique κs a r s e p q = p ∙ sym q
-
-pub kinds-refused-unique : (κs a r s e : _) → kinds-refused.Post κs a r e → kinds-refused.Post κs a s e → r ≡ s
-kinds-refused-unique κs a r s e p q = p ∙ sym q

@@ -17,10 +17,10 @@ use Rattle.analysis.specs.Filter.{prediction, filtered, analysis}
 use Rattle.silk.specs.State.{zeros, freshLag, freshState}
 use Rattle.shaping.specs.Taps.{shortPrediction, longPrediction}
 use Rattle.warped.specs.WarpedFilter.{warpedFilter}
-use Rattle.shaping.specs.NoiseTerms.{arTerm, lfTerm}
+use Rattle.noise.specs.NoiseTerms.{arTerm, lfTerm}
 use Rattle.harmonic.specs.Harmonic.{packedGain, shapedLag, ltpTerm}
-use Rattle.shaping.specs.Residual.{predicted, residual}
-use Rattle.shaping.specs.Output.{pulseOf, xqOut}
+use Rattle.noise.specs.Residual.{predicted, residual}
+use Rattle.noise.specs.Output.{pulseOf, xqOut}
 use Rattle.residuals.specs.Offset.{offsetOf}
 use Rattle.residuals.specs.Residual.{turned, signedResidual, signedExcitation, pulseOf as pulseOf-choice, seedWith}
 use Rattle.choice.specs.RustChoice.{withNoise, ordered, costed, choice}

@@ -10,8 +10,8 @@ use Rattle.fixed.specs.Shift.{shl32}
 use Rattle.seeds.specs.Generator.{rand}
 use Rattle.shaping.specs.Taps.{shortPrediction}
 use Rattle.warped.specs.WarpedFilter.{Filter, warpedFilter}
-use Rattle.shaping.specs.NoiseTerms.{arTerm, lfTerm}
-use Rattle.shaping.specs.Residual.{residual}
+use Rattle.noise.specs.NoiseTerms.{arTerm, lfTerm}
+use Rattle.noise.specs.Residual.{residual}
 use Rattle.choice.specs.declared.candidate.Choice.{Choice}
 use Rattle.residuals.specs.Residual.{signedResidual, signedExcitation}
 use Rattle.choice.specs.RustChoice.{choice}

@@ -19,9 +19,9 @@ use crate::structs::Terms;
 use crate::structs::XQ_Q14;
 use choice::candidate;
 use fixed::wrap;
+use noise::noise_terms;
 use residuals::residual;
 use seeds::generator;
-use shaping::noise_terms;
 use shaping::short_prediction;
 use shifts::shift;
 use warped::warped_filter;
@@ -75,7 +75,7 @@ impl Terms {
     fn residual_of(self, n_LTP_Q14: i32) -> i32
         ensures { λ r. ⌜ r ≡ residualOf self «n_LTP_Q14» ⌝ }
     {
-        let r = shaping::residual::residual(
+        let r = noise::residual::residual(
             self.n_AR_Q14,
             self.n_LF_Q14,
             n_LTP_Q14,

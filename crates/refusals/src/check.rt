@@ -7,7 +7,7 @@ use crate::answer::Sizes;
 use crate::rows;
 use lag_limits::lags;
 use limits::gains;
-use limits::settings;
+use setting_limits::settings;
 use silk::structs::Settings;
 
 // The first refusal of document 01's table that applies, else accepted. `lagPrev` and `prev_gain_Q16` are the state's.

@@ -4,36 +4,12 @@ use mathlib.Core.Path.{_≡_, sym, _∙_}
 use Rattle.shaping.proofs.short_prediction.silk_noise_shape_quantizer_short_prediction.Reads as short-prediction
 use Rattle.shaping.proofs.long_prediction.ltp_prediction.Reads as ltp-prediction
 use Rattle.shaping.proofs.start.half_order.Reads as half-order
-use Rattle.shaping.proofs.noise_terms.n_AR.Reads as n-AR
-use Rattle.shaping.proofs.noise_terms.n_LF.Reads as n-LF
-use Rattle.shaping.proofs.residual.residual.Reads as residual
-use Rattle.shaping.proofs.output.pulse_of.Reads as pulse-of
-use Rattle.shaping.proofs.output.xq_out8.Reads as xq-out8
-use Rattle.shaping.proofs.output.xq_out14.Reads as xq-out14
 
 pub silk-noise-shape-quantizer-short-prediction-unique : (κs a r s e : _) → short-prediction.Post κs a r e → short-prediction.Post κs a s e → r ≡ s
 silk-noise-shape-quantizer-short-prediction-unique κs a r s e p q = p ∙ sym q
 
 pub ltp-prediction-unique : (κs a r s e : _) → ltp-prediction.Post κs a r e → ltp-prediction.Post κs a s e → r ≡ s
 ltp-prediction-unique κs a r s e p q = p ∙ sym q
-
-pub n-AR-unique : (κs a r s e : _) → n-AR.Post κs a r e → n-AR.Post κs a s e → r ≡ s
-n-AR-unique κs a r s e p q = p ∙ sym q
-
-pub n-LF-unique : (κs a r s e : _) → n-LF.Post κs a r e → n-LF.Post κs a s e → r ≡ s
-n-LF-unique κs a r s e p q = p ∙ sym q
-
-pub residual-unique : (κs a r s e : _) → residual.Post κs a r e → residual.Post κs a s e → r ≡ s
-residual-unique κs a r s e p q = p ∙ sym q
-
-pub pulse-of-unique : (κs a r s e : _) → pulse-of.Post κs a r e → pulse-of.Post κs a s e → r ≡ s
-pulse-of-unique κs a r s e p q = p ∙ sym q
-
-pub xq-out8-unique : (κs a r s e : _) → xq-out8.Post κs a r e → xq-out8.Post κs a s e → r ≡ s
-xq-out8-unique κs a r s e p q = p ∙ sym q
-
-pub xq-out14-unique : (κs a r s e : _) → xq-out14.Post κs a r e → xq-out14.Post κs a s e → r ≡ s
-xq-out14-unique κs a r s e p q = p ∙ sym q
 
 pub half-order-unique : (κs a r s e : _) → half-order.Post κs a r e → half-order.Post κs a s e → r ≡ s
 half-order-unique κs a r s e p q = p ∙ sym q

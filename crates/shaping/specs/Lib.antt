@@ -1,4 +1,1 @@
 pub mod Taps
-pub mod NoiseTerms
-pub mod Residual
-pub mod Output

@@ -2,10 +2,10 @@
 use crate::words;
 use fixed::wrap;
 use harmonic::terms;
+use noise::noise_terms;
+use noise::output;
+use noise::residual;
 use shaping::long_prediction;
-use shaping::noise_terms;
-use shaping::output;
-use shaping::residual;
 use shaping::short_prediction;
 use warped::warped_filter;
 

@@ -6,7 +6,7 @@ use Prim.Native.Nat.{ℕ, _+_, _-_, _*_}
 use lib.IntN.{ℤ}
 use lib.ListN.{set}
 use Rattle.fixed.specs.Shift.{shr32}
-use Rattle.shaping.specs.Output.{pulseOf, xqOut}
+use Rattle.noise.specs.Output.{pulseOf, xqOut}
 use Rattle.path.specs.declared.structs.Fix.{Fix}
 use Rattle.path.specs.declared.structs.Common.{Common}
 use Rattle.path.specs.declared.structs.Sampled.{Sampled}

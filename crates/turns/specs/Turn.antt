@@ -5,7 +5,7 @@ use mathlib.Core.List.{List}
 use lib.ListN.{set}
 use lib.IntN.{ℤ}
 use Rattle.fixed.specs.Shift.{shr32}
-use Rattle.shaping.specs.Output.{pulseOf, xqOut}
+use Rattle.noise.specs.Output.{pulseOf, xqOut}
 use Rattle.path.specs.declared.structs.Fix.{Fix}
 use Rattle.path.specs.declared.structs.Common.{Common}
 use Rattle.path.specs.Data.{word, Paths, Running, Rows}

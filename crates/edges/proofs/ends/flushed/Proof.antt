@@ -12,7 +12,7 @@ use mir.Val.{toZ}
 use Rattle.fixed.proofs.Fit.{back, read}
 use Rattle.fixed.specs.Iter.{iter, either}
 use Rattle.fixed.proofs.Iters.{iter-more}
-use Rattle.shaping.specs.Output.{pulseOf}
+use Rattle.noise.specs.Output.{pulseOf}
 use Rattle.path.specs.Data.{word, ringQ, ringXq, ringShape}
 use Rattle.edges.specs.Flush.{flushed, flushTurn, flushAt, outs, fitMiddle, fitLast}
 use Rattle.edges.proofs.ends.flushed.Statement.{statement}

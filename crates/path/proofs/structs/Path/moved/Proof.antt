@@ -3,7 +3,7 @@ use mathlib.Core.Path.{_≡_, _∙_}
 use borrow.Author.Needs.{needs}
 use denote.Ref.{now}
 use Rattle.fixed.proofs.Fit.{got32, got16, read}
-use Rattle.shaping.specs.NoiseTerms.{arTerm}
+use Rattle.noise.specs.NoiseTerms.{arTerm}
 use Rattle.seeds.specs.Generator.{rand}
 use Rattle.path.specs.Path.{moved, filterOf}
 use Rattle.path.proofs.Told.{path, halves}

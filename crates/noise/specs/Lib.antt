@@ -1,0 +1,3 @@
+pub mod NoiseTerms
+pub mod Output
+pub mod Residual

@@ -1,0 +1,2 @@
+-- Unique: each contract leaves one outcome.
+pub mod Unique
