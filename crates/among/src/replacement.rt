@@ -2,7 +2,7 @@
 ghost use mathlib.Core.Path.{_≡_};
 ghost use Prim.Native.Nat.{_<_, _≤_};
 ghost use Rattle.path.specs.Data.{paths};
-ghost use Rattle.among.specs.Among.{swapOf, keepsFirst, replaced as replacedZ, movedOver};
+ghost use Rattle.steps.specs.Among.{swapOf, keepsFirst, replaced as replacedZ, movedOver};
 use path::structs::Candidate;
 use path::structs::Path;
 use path::structs::Swap;

@@ -27,7 +27,7 @@ fn filtered(input: &[i16], b: &[i16], order: usize, ix: usize) -> i16
 {
     let out32_Q12 = prediction(input, b, order, ix);
     let left = wrap::sub32(shift::shl32(input[ix] as i32, 12), out32_Q12);
-    range::sat16(shift::rshift_round12(left))
+    range::sat16(shift::rshift_round(left, 12))
 }
 
 // Filters `input` into the start of `out`, whose first `order` words are cleared and whose words past the input's length

@@ -4,7 +4,7 @@ ghost use Prim.Native.Nat.{_<_, _≤_};
 ghost use lib.ListN.{replicate};
 ghost use Rattle.silk.specs.State.{zeros};
 ghost use Rattle.path.specs.Data.{paths};
-ghost use Rattle.beginning.specs.Begin.{zeroPath, zeroLpcs, zeroRings, ownFrom, startLpc, startRings, begun};
+ghost use Rattle.steps.specs.Begin.{zeroPath, zeroLpcs, zeroRings, ownFrom, startLpc, startRings, begun};
 use path::structs::Path;
 use path::structs::SHAPE_Q14;
 

@@ -3,7 +3,7 @@
 use mathlib.Core.Path.{_≡_, sym, _∙_, ap}
 use mathlib.Core.List.{[]}
 use denote.Ref.{now}
-use Rattle.frame.specs.Frame.{Done}
+use Rattle.steps.specs.Frame.{Done}
 use Rattle.closing.specs.declared.end.Handed.{Handed}
 use Rattle.closing.proofs.end.ended.Reads as ended
 

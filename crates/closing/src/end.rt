@@ -7,14 +7,14 @@ ghost use lib.ListN.{length};
 ghost use lib.IntN.{ℤ, pos};
 ghost use Rattle.fixed.specs.Iter.{either};
 ghost use Rattle.path.specs.Data.{running};
-ghost use Rattle.calls.specs.Call.{sinceBy, rewhitesBy};
-ghost use Rattle.frame.specs.Frame.{framedOf, leftBy, doneOf, endedBy};
-use calls::call;
-use calls::call::Given;
+ghost use Rattle.steps.specs.Call.{sinceBy, rewhitesBy};
+ghost use Rattle.steps.specs.Frame.{framedOf, leftBy, doneOf, endedBy};
 use edges::ends;
 use frame::step::Frame;
 use path::structs::Path;
 use silk::structs::NsqState;
+use steps::structs::Given;
+use subframes::scalars;
 use tails::tail;
 
 // What an accepted call hands back beside its pulses.
@@ -36,7 +36,7 @@ fn work_end(g: Given) -> i32
     requires { ⌜ ((0 < g .«nb_subfr») × (g .«nb_subfr» ≤ 4)) × (g .«subfr_length» ≤ 80) ⌝ }
     ensures { λ r. ⌜ r ≡ pos (4 * g .«subfr_length» + (sinceBy g (g .«nb_subfr» - 1) + 1) * g .«subfr_length») ⌝ }
 {
-    let since = call::since(g, g.nb_subfr - 1);
+    let since = scalars::since(g, g.nb_subfr - 1);
     let done = times(since + 1, g.subfr_length);
     (4 * g.subfr_length + done) as i32
 }
@@ -55,7 +55,7 @@ fn rewhite_flag(g: Given) -> i32
     requires { ⌜ 0 < g .«nb_subfr» ⌝ }
     ensures { λ r. ⌜ r ≡ either (rewhitesBy g (g .«nb_subfr» - 1)) (pos 1) (pos 0) ⌝ }
 {
-    if call::rewhites(g, g.nb_subfr - 1) {
+    if scalars::rewhites(g, g.nb_subfr - 1) {
         return 1;
     }
     0

@@ -12,9 +12,9 @@ use Rattle.silk.proofs.structs.NsqState as state-type
 use Rattle.silk.proofs.structs.NsqState.Laws as state-laws
 use Rattle.path.proofs.Told.{Told, Back}
 use Rattle.refusals.specs.Good.{Good}
-use Rattle.calls.specs.Call.{Call, givenOf, countOf, lengthOf, Sound, Stocked}
-use Rattle.calls.proofs.Sound.{sound-of, stocked-by, counts}
-use Rattle.calls.specs.Sizes.{sizesOf}
+use Rattle.steps.specs.Call.{Call, givenOf, countOf, lengthOf, Sound, Stocked}
+use Rattle.steps.proofs.Sound.{sound-of, stocked-by, counts}
+use Rattle.steps.specs.Sizes.{sizesOf}
 
 -- ---- a good call
 pub record Ready (c : Call) (x out : List ℤ) : Type 0 where

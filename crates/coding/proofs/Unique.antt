@@ -2,7 +2,7 @@
 -- Assumes nothing.
 use mathlib.Core.Path.{_≡_, sym, _∙_, ap}
 use denote.Ref.{now}
-use Rattle.frame.specs.Frame.{Done}
+use Rattle.steps.specs.Frame.{Done}
 use Rattle.closing.proofs.Unique.{handedOf}
 use Rattle.coding.proofs.accepted.coded.Reads as coded
 

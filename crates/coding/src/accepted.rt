@@ -5,17 +5,16 @@ ghost use Prim.Native.Nat.{_-_, _*_, _<_, _≤_};
 ghost use lib.ListN.{length, replicate};
 ghost use lib.IntN.{pos};
 ghost use lib.Signed.{_≤ℤ_};
-ghost use Rattle.among.specs.Among.{keepsFirst};
+ghost use Rattle.steps.specs.Among.{keepsFirst};
 ghost use Rattle.path.specs.Data.{word, paths, running};
 ghost use Rattle.refusals.specs.Good.{Good};
 ghost use Rattle.silk.specs.State.{zeros};
-ghost use Rattle.beginning.specs.Begin.{zeroPath, begun};
-ghost use Rattle.calls.specs.Call.{callOf, Sound, Stocked};
-ghost use Rattle.frame.specs.Frame.{framedOf, runBy, doneOf, endedBy, frame as frameZ};
-ghost use Rattle.calls.specs.Sizes.{sizesOf};
+ghost use Rattle.steps.specs.Begin.{zeroPath, begun};
+ghost use Rattle.steps.specs.Call.{callOf, Sound, Stocked};
+ghost use Rattle.steps.specs.Frame.{framedOf, runBy, doneOf, endedBy, frame as frameZ};
+ghost use Rattle.steps.specs.Sizes.{sizesOf};
 use beginning::begin;
 use calls::call;
-use calls::call::Given;
 use closing::end;
 use closing::end::Handed;
 use frame::step::Frame;
@@ -23,6 +22,7 @@ use path::structs::Work;
 use running::run;
 use silk::structs::NsqState;
 use silk::structs::Settings;
+use steps::structs::Given;
 
 // The shaping word before the frame, of a history of 4l words.
 fn last_shape(shp: [i32; 640], l: usize) -> i32

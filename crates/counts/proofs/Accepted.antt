@@ -18,10 +18,10 @@ use Rattle.limits.specs.Count.{natZ, sameZ}
 use Rattle.refusals.specs.Good.{QuietLag, GoodLength, GoodSettings, GoodLags, Good}
 use Rattle.refusals.proofs.Accept.{good}
 use Rattle.refusals.proofs.Room.{lag-above}
-use Rattle.calls.specs.Call.{Call, voicedBy, lowered, voicedDelay, quietDelay, delayBy, givenBy, givenOf, lengthOf, countOf, delayOf, lagBy, lagOf, Sound}
-use Rattle.calls.proofs.Sound.{sound-by, sound-of, counts}
-use Rattle.nsq.specs.Entry.{answered}
-use Rattle.calls.specs.Sizes.{sizesOf}
+use Rattle.steps.specs.Call.{Call, voicedBy, lowered, voicedDelay, quietDelay, delayBy, givenBy, givenOf, lengthOf, countOf, delayOf, lagBy, lagOf, Sound}
+use Rattle.steps.proofs.Sound.{sound-by, sound-of, counts}
+use Rattle.steps.specs.Entry.{answered}
+use Rattle.steps.specs.Sizes.{sizesOf}
 
 -- ---- the delay is behind the lag that is used, where one is: not voiced too
 quiet-early : (l prev : ℕ) → 16 ≤ prev → quietDelay l prev + 3 ≤ prev

@@ -9,15 +9,15 @@ use lib.ListN.{length, take, drop}
 use lib.IntN.{ℤ, pos}
 use Rattle.fixed.specs.Iter.{iter}
 use Rattle.fixed.proofs.Iters.{iter-same, iter-rel, either-rel}
-use Rattle.silk.specs.Gains.{«gain_adj_Q16»}
+use Rattle.gain_terms.specs.Gains.{«gain_adj_Q16»}
 use Rattle.analysis.specs.Filter.{tap, prediction, filtered, filterTurn, clearTurn, analysis}
 use Rattle.path.specs.declared.structs.Fix.{Fix}
 use Rattle.path.specs.Data.{word, Running}
 use Rattle.path.specs.Scaled.{scaleTurn, scaledWords}
 use Rattle.products.specs.Product.{smulww}
-use Rattle.scaling.specs.Scale.{scaled}
+use Rattle.steps.specs.Scale.{scaled}
 use Rattle.limits.specs.Count.{sameZ}
-use Rattle.frame.specs.Frame.{middleBy, startIdx, rewhitened, rewhitenedAt, refilled, Whitened, whitenedOf, whitened, regained, flushedFirst, whitenedFirst, regainedLast, before}
+use Rattle.steps.specs.Frame.{middleBy, startIdx, rewhitened, rewhitenedAt, refilled, Whitened, whitenedOf, whitened, regained, flushedFirst, whitenedFirst, regainedLast, before}
 use Rattle.counts.proofs.Rows.{Below, below-map, below-part}
 use Rattle.counts.proofs.Subframe.{Same}
 use Rattle.counts.proofs.Flush.{middle-same, middle-past}

@@ -11,14 +11,14 @@ use lib.Dec.{eqb, ltb}
 use borrow.Author.Tests.{ltb-true, ltb-false, not-true, not-false}
 use Rattle.fixed.specs.Iter.{either}
 use Rattle.fixed.specs.Wrap.{wrap16}
-use Rattle.silk.specs.Gains.{«inv_gain_Q31», «ltp_scaled_inv_gain»}
+use Rattle.gain_terms.specs.Gains.{«inv_gain_Q31», «ltp_scaled_inv_gain»}
 use Rattle.harmonic.specs.Harmonic.{packedGain}
 use Rattle.path.specs.Data.{word}
 use Rattle.limits.specs.Count.{natZ, sameZ}
 use Rattle.limits.proofs.Laws.{same-true}
-use Rattle.calls.specs.declared.call.Given.{Given}
-use Rattle.calls.specs.Call.{Call, voicedBy, interpolatedBy, voicedDelay, quietDelay, delayBy, givenBy, givenOf, countOf, lagBy, lagOf, twiceBy, secondBy, rewhitesBy, sinceBy, rowBy, fixBy, fixOf, halvesBy, rowsBy, rowsOf, whiteBy}
-use Rattle.calls.proofs.Sound.{rewhites-voiced}
+use Rattle.steps.specs.declared.structs.Given.{Given}
+use Rattle.steps.specs.Call.{Call, voicedBy, interpolatedBy, voicedDelay, quietDelay, delayBy, givenBy, givenOf, countOf, lagBy, lagOf, twiceBy, secondBy, rewhitesBy, sinceBy, rowBy, fixBy, fixOf, halvesBy, rowsBy, rowsOf, whiteBy}
+use Rattle.steps.proofs.Sound.{rewhites-voiced}
 use Rattle.counts.specs.Agree.{Voiced, OneRow, RowZeroOnly, Agree}
 use Rattle.counts.proofs.Rows.{either-same, part-word}
 use Rattle.counts.proofs.Refusals.{not-same}

@@ -6,7 +6,7 @@ use mathlib.Core.List.{List}
 use lib.ListN.{length}
 use lib.IntN.{ℤ}
 use Rattle.silk.specs.declared.structs.NsqState.{NsqState}
-use Rattle.calls.specs.Call.{Call, callOf}
+use Rattle.steps.specs.Call.{Call, callOf}
 use Rattle.counts.specs.Agree.{Alike, StateAgree, Agree}
 
 -- a state with other positions and another flag

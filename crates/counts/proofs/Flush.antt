@@ -8,8 +8,8 @@ use lib.IntN.{ℤ}
 use Rattle.fixed.proofs.Iters.{iter-rel}
 use Rattle.noise.specs.Output.{pulseOf}
 use Rattle.path.specs.Data.{word, Running, ringQ, ringXq, ringShape}
-use Rattle.edges.specs.Flush.{bestOf, fitMiddle, Outs, flushAt, flushTurn, flushed}
-use Rattle.frame.specs.Frame.{outsOf, flushedRun, middleBy}
+use Rattle.steps.specs.Flush.{bestOf, fitMiddle, Outs, flushAt, flushTurn, flushed}
+use Rattle.steps.specs.Frame.{outsOf, flushedRun, middleBy}
 use Rattle.counts.proofs.Rows.{Below, below-grow, below-past}
 use Rattle.counts.proofs.Subframe.{Same}
 

@@ -6,11 +6,11 @@ use lib.IntN.{ℤ}
 use Rattle.fixed.specs.Iter.{iter}
 use Rattle.fixed.proofs.Iters.{iter-rel}
 use Rattle.path.specs.Data.{word}
-use Rattle.among.specs.Among.{Rule}
-use Rattle.calls.specs.declared.call.Given.{Given}
-use Rattle.calls.specs.Call.{Call, countOf, secondBy, rewhitesBy, fixBy, rowsBy, whiteBy}
-use Rattle.edges.specs.Flush.{bestOf}
-use Rattle.frame.specs.Frame.{Framed, start, step, priorBy, turnBy, subframeTurn, run, endedWith, endedBy, ended, frame}
+use Rattle.steps.specs.Among.{Rule}
+use Rattle.steps.specs.declared.structs.Given.{Given}
+use Rattle.steps.specs.Call.{Call, countOf, secondBy, rewhitesBy, fixBy, rowsBy, whiteBy}
+use Rattle.steps.specs.Flush.{bestOf}
+use Rattle.steps.specs.Frame.{Framed, start, step, priorBy, turnBy, subframeTurn, run, endedWith, endedBy, ended, frame}
 
 -- subframe k
 pub turn-is : (rule : Rule) (g : Given) (x pred ltp ar tilt harm lf gains lags : List ℤ) (k : ℕ) (t : Framed)

@@ -9,8 +9,8 @@ use lib.IntN.{ℤ}
 use lib.Dec.{eqb, leb}
 use borrow.Author.Tests.{eqb-true, eqb-false, ne-eqb, leb-true}
 use Rattle.fixed.specs.Iter.{either}
-use Rattle.calls.specs.declared.call.Given.{Given}
-use Rattle.calls.specs.Call.{lagBy, twiceBy, secondBy, rewhitesBy, sinceBy, fixBy, Sound}
+use Rattle.steps.specs.declared.structs.Given.{Given}
+use Rattle.steps.specs.Call.{lagBy, twiceBy, secondBy, rewhitesBy, sinceBy, fixBy, Sound}
 use Rattle.counts.proofs.Subframe.{bound, Behind}
 use Rattle.counts.proofs.Before.{Stands}
 

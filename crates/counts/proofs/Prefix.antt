@@ -10,11 +10,11 @@ use lib.IntN.{ℤ}
 use Rattle.noise.specs.Output.{pulseOf}
 use Rattle.path.specs.declared.structs.Fix.{Fix}
 use Rattle.path.specs.Data.{word, Running, Rows}
-use Rattle.among.specs.Among.{Rule}
-use Rattle.paths.specs.Subframe.{moveBack, subframe}
-use Rattle.turns.specs.Turn.{took, put, turn}
-use Rattle.leaving.specs.Leaving.{leaves, emit}
-use Rattle.frame.specs.Frame.{Framed, Whitened, coded, step}
+use Rattle.steps.specs.Among.{Rule}
+use Rattle.steps.specs.Subframe.{moveBack, subframe}
+use Rattle.steps.specs.Turn.{took, put, turn}
+use Rattle.steps.specs.Leaving.{leaves, emit}
+use Rattle.steps.specs.Frame.{Framed, Whitened, coded, step}
 use Rattle.counts.proofs.Rows.{Below, below-refl, below-past}
 use Rattle.counts.proofs.Sample.{rows-refl}
 use Rattle.counts.proofs.Subframe.{took-same, wrote, turn-is, moved-back, subframe-rel}

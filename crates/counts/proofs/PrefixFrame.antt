@@ -6,11 +6,11 @@ use mathlib.Core.Path.{_≡_, refl, ap}
 use mathlib.Core.List.{List}
 use lib.IntN.{ℤ}
 use Rattle.path.specs.Data.{word}
-use Rattle.among.specs.Among.{Rule}
-use Rattle.calls.specs.Call.{Call, givenOf, lengthOf, countOf, delayOf, secondBy, rewhitesBy, fixBy, fixOf, rowsOf, whiteGain, Sound}
-use Rattle.edges.specs.Flush.{bestOf, fitLast}
-use Rattle.frame.specs.Frame.{Framed, step, subframeTurn, run, Done, ended, frame}
-use Rattle.calls.proofs.Sound.{second-is}
+use Rattle.steps.specs.Among.{Rule}
+use Rattle.steps.specs.Call.{Call, givenOf, lengthOf, countOf, delayOf, secondBy, rewhitesBy, fixBy, fixOf, rowsOf, whiteGain, Sound}
+use Rattle.steps.specs.Flush.{bestOf, fitLast}
+use Rattle.steps.specs.Frame.{Framed, step, subframeTurn, run, Done, ended, frame}
+use Rattle.steps.proofs.Sound.{second-is}
 use Rattle.counts.proofs.Rows.{Below, below-refl}
 use Rattle.counts.proofs.Flush.{flush-past}
 use Rattle.counts.proofs.Prefix.{Pre, pre-step, frameOut, step-pre}

@@ -9,9 +9,9 @@ use Rattle.limits.specs.Count.{sameZ}
 use Rattle.limits.specs.Tests.{quietLagRefused, someLag, lastOf, lagsRefused}
 use Rattle.refusals.specs.Table.{table, answerOf}
 use Rattle.limits.proofs.Laws.{same-true, same-refl}
-use Rattle.calls.specs.Call.{Call}
-use Rattle.nsq.specs.Entry.{answered}
-use Rattle.calls.specs.Sizes.{sizesOf}
+use Rattle.steps.specs.Call.{Call}
+use Rattle.steps.specs.Entry.{answered}
+use Rattle.steps.specs.Sizes.{sizesOf}
 use Rattle.counts.specs.Agree.{Voiced, Agree}
 use Rattle.counts.proofs.Rows.{either-same}
 

@@ -21,10 +21,10 @@ use Rattle.path.specs.declared.structs.Common.{Common}
 use Rattle.path.specs.declared.structs.Moves.{Moves}
 use Rattle.path.specs.Data.{word, noPath, noCandidate, Paths, paths, Rows}
 use Rattle.path.specs.Path.{filterOf, moved, termsOf, pairOf, pair}
-use Rattle.among.specs.Among.{Rule}
-use Rattle.samples.specs.Each.{moveTurn, unmoved, moves, pairTurn, pairs}
-use Rattle.samples.specs.Settled.{settled}
-use Rattle.samples.specs.Sample.{tried, sample}
+use Rattle.steps.specs.Among.{Rule}
+use Rattle.steps.specs.Each.{moveTurn, unmoved, moves, pairTurn, pairs}
+use Rattle.steps.specs.Settled.{settled}
+use Rattle.steps.specs.Sample.{tried, sample}
 
 -- what a subframe with the scalars f reads of its rows is the same in v and w
 pub record RowsSame (f : Fix) (v w : Rows) : Type 0 where

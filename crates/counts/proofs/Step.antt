@@ -6,9 +6,9 @@ use mathlib.Core.List.{List}
 use lib.IntN.{ℤ}
 use Rattle.path.specs.declared.structs.Fix.{Fix}
 use Rattle.path.specs.Data.{Rows}
-use Rattle.among.specs.Among.{Rule}
-use Rattle.paths.specs.Subframe.{subframe}
-use Rattle.frame.specs.Frame.{Framed, framedOf, Whitened, before, coded, step}
+use Rattle.steps.specs.Among.{Rule}
+use Rattle.steps.specs.Subframe.{subframe}
+use Rattle.steps.specs.Frame.{Framed, framedOf, Whitened, before, coded, step}
 use Rattle.counts.proofs.Sample.{RowsSame}
 use Rattle.counts.proofs.Subframe.{Same, bound, Behind, subframe-same}
 use Rattle.counts.proofs.Before.{Stands, WhiteSame, before-same}

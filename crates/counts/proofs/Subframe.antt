@@ -17,12 +17,12 @@ use Rattle.noise.specs.Output.{pulseOf, xqOut}
 use Rattle.path.specs.declared.structs.Fix.{Fix}
 use Rattle.path.specs.declared.structs.Common.{Common}
 use Rattle.path.specs.Data.{word, Paths, Core, Running, Rows}
-use Rattle.among.specs.Among.{Rule}
-use Rattle.samples.specs.Settled.{Settled}
-use Rattle.paths.specs.Subframe.{moveBack, subframe}
-use Rattle.turns.specs.Turn.{tookFrom, took, putAt, put, turn}
-use Rattle.leaving.specs.Leaving.{leaves, emit}
-use Rattle.shared.specs.Shared.{predicted, harmonic, common}
+use Rattle.steps.specs.Among.{Rule}
+use Rattle.steps.specs.Settled.{Settled}
+use Rattle.steps.specs.Subframe.{moveBack, subframe}
+use Rattle.steps.specs.Turn.{tookFrom, took, putAt, put, turn}
+use Rattle.steps.specs.Leaving.{leaves, emit}
+use Rattle.steps.specs.Shared.{predicted, harmonic, common}
 use Rattle.places.specs.Places.{down, delayed}
 use Rattle.counts.proofs.Rows.{either-same, Below, below-at, below-less, below-grow}
 use Rattle.counts.proofs.Sample.{RowsSame, sample-same}

@@ -10,13 +10,13 @@ use lib.IntN.{ℤ}
 use lib.Dec.{eqb}
 use borrow.Author.Tests.{eqb-true, eqb-false}
 use Rattle.path.specs.Data.{word}
-use Rattle.among.specs.Among.{Rule}
+use Rattle.steps.specs.Among.{Rule}
 use Rattle.refusals.specs.Code.{codeOf}
 use Rattle.limits.specs.Count.{natZ}
-use Rattle.calls.specs.Call.{Call, delayOf}
-use Rattle.nsq.specs.Entry.{Outcome, answered, outcomeBy, outcome}
-use Rattle.calls.specs.Sizes.{sizesOf}
-use Rattle.nsq.proofs.Outcomes.{accepted-by, refused-by}
+use Rattle.steps.specs.Call.{Call, delayOf}
+use Rattle.steps.specs.Entry.{Outcome, answered, outcomeBy, outcome}
+use Rattle.steps.specs.Sizes.{sizesOf}
+use Rattle.steps.proofs.Outcomes.{accepted-by, refused-by}
 use Rattle.counts.specs.Agree.{Alike, Agree, HandsOutSame, SameOutcome, Decided}
 use Rattle.counts.proofs.Rows.{Below, below-refl, below-at}
 use Rattle.counts.proofs.Refusals.{answer-same}

@@ -11,8 +11,8 @@ use Rattle.path.specs.Data.{word}
 use Rattle.refusals.specs.Code.{codeOf}
 use Rattle.limits.specs.Count.{natZ}
 use Rattle.limits.specs.Tests.{lastOf}
-use Rattle.calls.specs.Call.{Call}
-use Rattle.nsq.specs.Entry.{Outcome}
+use Rattle.steps.specs.Call.{Call}
+use Rattle.steps.specs.Entry.{Outcome}
 
 -- ---- rows
 -- two rows of one length whose first m words are equal

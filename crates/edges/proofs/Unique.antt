@@ -2,7 +2,7 @@
 -- Assumes nothing.
 use mathlib.Core.Path.{_≡_, sym, _∙_, ap}
 use denote.Ref.{now}
-use Rattle.edges.specs.Flush.{Outs}
+use Rattle.steps.specs.Flush.{Outs}
 use Rattle.edges.proofs.ends.best.Reads as best
 use Rattle.edges.proofs.ends.flushed.Reads as flushed
 use Rattle.edges.proofs.ends.others_raised.Reads as others-raised

@@ -5,7 +5,7 @@ ghost use lib.ListN.{length};
 ghost use mathlib.Core.List.{List};
 ghost use lib.IntN.{ℤ};
 ghost use Rattle.fixed.specs.Iter.{either};
-ghost use Rattle.edges.specs.Flush.{bestOf, raisedPath, otherPath, othersRaised, fitMiddle, fitLast, flushed as flushedZ, outs};
+ghost use Rattle.steps.specs.Flush.{bestOf, raisedPath, otherPath, othersRaised, fitMiddle, fitLast, flushed as flushedZ, outs};
 use fixed::wrap;
 use noise::output;
 use path::structs::Path;

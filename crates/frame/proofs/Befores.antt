@@ -8,8 +8,8 @@ use Rattle.fixed.specs.Iter.{either}
 use Rattle.path.specs.declared.structs.Fix.{Fix}
 use Rattle.path.specs.declared.structs.Work.{Work}
 use Rattle.path.specs.Data.{Running, running}
-use Rattle.scaling.specs.Scale.{filled}
-use Rattle.frame.specs.Frame.{rewhitenedAt, refilled, Whitened, whitenedOf, whitened, whitenedFirst, flushedFirst, regained, regainedLast, before}
+use Rattle.steps.specs.Scale.{filled}
+use Rattle.steps.specs.Frame.{rewhitenedAt, refilled, Whitened, whitenedOf, whitened, whitenedFirst, flushedFirst, regained, regainedLast, before}
 
 -- the work row after the rewhitening
 abbrev pub refill : Bool → Fix → List ℤ → ℤ → List ℤ → List ℤ → List ℤ → List ℤ

@@ -3,7 +3,7 @@
 use mathlib.Core.Path.{_≡_, sym, _∙_, ap}
 use denote.Ref.{now}
 use Rattle.frame.specs.declared.step.Frame.{Frame}
-use Rattle.frame.specs.Frame.{Framed}
+use Rattle.steps.specs.Frame.{Framed}
 use Rattle.frame.proofs.step.step.Reads as step
 use Rattle.frame.proofs.turn.turn.Reads as turn
 

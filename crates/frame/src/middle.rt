@@ -6,7 +6,7 @@ ghost use mathlib.Core.List.{List};
 ghost use lib.IntN.{ℤ};
 ghost use Rattle.path.specs.Data.{running};
 ghost use Rattle.places.specs.Places.{Fits};
-ghost use Rattle.frame.specs.Frame.{middleBy, flushedFirst};
+ghost use Rattle.steps.specs.Frame.{middleBy, flushedFirst};
 use edges::ends;
 use path::structs::Fix;
 use path::structs::Work;

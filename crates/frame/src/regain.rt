@@ -5,11 +5,11 @@ ghost use lib.IntN.{ℤ, pos};
 ghost use lib.Signed.{_≤ℤ_};
 ghost use Rattle.path.specs.Data.{running};
 ghost use Rattle.places.specs.Places.{Fits};
-ghost use Rattle.frame.specs.Frame.{regained as regainedZ};
+ghost use Rattle.steps.specs.Frame.{regained as regainedZ};
+use gain_terms::gains;
 use path::structs::Fix;
 use path::structs::Work;
 use scaling::scale;
-use silk::gains;
 
 // The paths, the work row and the shaping words at the subframe's gain; `prev` is the gain before.
 pub fn regained(

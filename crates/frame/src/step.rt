@@ -5,31 +5,22 @@ ghost use lib.ListN.{length};
 ghost use lib.IntN.{pos};
 ghost use lib.Signed.{_≤ℤ_};
 ghost use Rattle.path.specs.Data.{rows, running};
-ghost use Rattle.among.specs.Among.{keepsFirst};
+ghost use Rattle.steps.specs.Among.{keepsFirst};
 ghost use Rattle.places.specs.Places.{Fits};
-ghost use Rattle.calls.specs.Call.{Room};
-ghost use Rattle.frame.specs.Frame.{framedOf, step as stepZ};
+ghost use Rattle.steps.specs.Call.{Room};
+ghost use Rattle.steps.specs.Frame.{framedOf, step as stepZ};
 use crate::before;
 use path::structs::Fix;
 use path::structs::Halves;
 use path::structs::Work;
 use paths::subframe::silk_noise_shape_quantizer_del_dec as samples;
+use steps::structs::Prior;
 
 // A frame in work, but its rows: the paths, the filtered history, and the gain of the subframe before.
 pub struct Frame {
     pub work: Work,
     pub sLTP: [i16; 640],
     pub prev: i32,
-}
-
-// What comes before a subframe's samples.
-pub struct Prior {
-    // whether it is the second one to be rewhitened, and the gain of the flush
-    pub again: bool,
-    pub gain1: i32,
-    // whether it is rewhitened, and by what
-    pub rewhite: bool,
-    pub inv: i32,
 }
 
 // A subframe, from the flush before it to its last sample.

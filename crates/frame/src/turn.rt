@@ -6,17 +6,17 @@ ghost use lib.ListN.{length, take, drop};
 ghost use lib.IntN.{pos};
 ghost use lib.Signed.{_≤ℤ_};
 ghost use Rattle.path.specs.Data.{rows, running};
-ghost use Rattle.among.specs.Among.{keepsFirst};
+ghost use Rattle.steps.specs.Among.{keepsFirst};
 ghost use Rattle.places.specs.Places.{Fits};
-ghost use Rattle.calls.specs.Call.{Sound, Stocked, Room};
-ghost use Rattle.frame.specs.Frame.{framedOf, stepBy, priorBy, turnBy};
+ghost use Rattle.steps.specs.Call.{Sound, Stocked, Room};
+ghost use Rattle.steps.specs.Frame.{framedOf, stepBy, priorBy, turnBy};
 use crate::step;
 use crate::step::Frame;
-use crate::step::Prior;
-use calls::call;
-use calls::call::Given;
 use path::structs::Fix;
 use path::structs::Halves;
+use steps::structs::Given;
+use steps::structs::Prior;
+use subframes::scalars;
 
 // What comes before the samples of subframe k.
 fn prior_of(g: Given, gains: &[i32], k: usize) -> Prior
@@ -26,10 +26,10 @@ fn prior_of(g: Given, gains: &[i32], k: usize) -> Prior
     let gain1 = gains[1];
     let gain = gains[k];
     Prior {
-        again: call::second(g, k),
+        again: scalars::second(g, k),
         gain1: gain1,
-        rewhite: call::rewhites(g, k),
-        inv: call::white_gain(g, gain, k),
+        rewhite: scalars::rewhites(g, k),
+        inv: scalars::white_gain(g, gain, k),
     }
 }
 
@@ -101,10 +101,10 @@ pub fn turn(
     requires { ⌜ ((Sound g (now lags) × Stocked g (now x) (now pred) (now long) (now ar) (now tilt) (now harm) (now lf) (now gains) (now lags)) × ((k < g .«nb_subfr») × (g .«nb_subfr» * g .«subfr_length» ≤ length (now pulses)))) × ((pos 1 ≤ℤ t .prev) × (t .work .«smpl_buf_idx» < 40)) ⌝ }
     ensures { λ r. ⌜ (framedOf (running (r .work) (now (lpc .exit)) (now (ring .exit)) (now (ltp .exit)) (now (dgain .exit)) (now (xq .exit)) (now (shp .exit)) (now (pulses .exit))) (r .sLTP) (r .prev) ≡ turnBy keepsFirst g (now (x .entry)) (now (pred .entry)) (now (long .entry)) (now (ar .entry)) (now (tilt .entry)) (now (harm .entry)) (now (lf .entry)) (now (gains .entry)) (now (lags .entry)) k (framedOf (running (t .work) (now (lpc .entry)) (now (ring .entry)) (now (ltp .entry)) (now (dgain .entry)) (now (xq .entry)) (now (shp .entry)) (now (pulses .entry))) (t .sLTP) (t .prev))) × ((pos 1 ≤ℤ r .prev) × (r .work .«smpl_buf_idx» < 40)) ⌝ }
 {
-    let f = call::fix_of(g, lags, lf, gains, k);
-    let h = call::halves_of(g, tilt, harm, k);
+    let f = scalars::fix_of(g, lags, lf, gains, k);
+    let h = scalars::halves_of(g, tilt, harm, k);
     let p = prior_of(g, gains, k);
-    let from = call::row_of(g, k) * 16;
+    let from = scalars::row_of(g, k) * 16;
     let five = k * 5;
     let shape = k * 24;
     stepped(

@@ -2,11 +2,11 @@
 ghost use mathlib.Core.Path.{_≡_};
 ghost use Prim.Native.Nat.{_+_, _-_, _*_, _<_, _≤_};
 ghost use Rattle.fixed.specs.Iter.{either};
-ghost use Rattle.scaling.specs.Scale.{filled};
+ghost use Rattle.steps.specs.Scale.{filled};
 ghost use Rattle.places.specs.Places.{Fits};
 ghost use lib.ListN.{length};
-ghost use Rattle.calls.specs.Call.{Room};
-ghost use Rattle.frame.specs.Frame.{rewhitened as rewhitenedZ, rewhitenedAt};
+ghost use Rattle.steps.specs.Call.{Room};
+ghost use Rattle.steps.specs.Frame.{rewhitened as rewhitenedZ, rewhitenedAt};
 use analysis::lpc_analysis_filter;
 use path::structs::Fix;
 use scaling::scale;

@@ -7,7 +7,7 @@ use borrow.Author.Tests.{leb-true}
 use lib.Dec.{leb}
 use Rattle.fixed.specs.Iter.{either}
 use Rattle.path.specs.declared.structs.Fix.{Fix}
-use Rattle.leaving.specs.Leaving.{leaves}
+use Rattle.steps.specs.Leaving.{leaves}
 use Rattle.places.specs.Places.{Fits}
 
 -- where a sample leaves, its place is not before the frame's start

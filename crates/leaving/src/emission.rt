@@ -4,7 +4,7 @@ ghost use Prim.Native.Nat.{_+_, _-_, _*_, _<_, _≤_};
 ghost use lib.ListN.{length};
 ghost use Rattle.noise.specs.Output.{pulseOf, xqOut};
 ghost use Rattle.places.specs.Places.{Fits};
-ghost use Rattle.leaving.specs.Leaving.{leaves as leavesZ, emit as emitZ};
+ghost use Rattle.steps.specs.Leaving.{leaves as leavesZ, emit as emitZ};
 use noise::output;
 use path::structs::Fix;
 

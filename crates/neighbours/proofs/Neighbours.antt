@@ -12,7 +12,7 @@ use Rattle.fixed.specs.Range.{clamp, sat16, minZ, abs32}
 use Rattle.products.specs.Product.{smulbb, smlabb, smulwb, smlawb, smulwt, smlawt, smulww, smlaww, smmul}
 use Rattle.seeds.specs.Generator.{rand}
 use Rattle.inverses.specs.Inlines.{headrm, nrm, «b32_inv», «lshift_SAT32», shifted, «err_Q32», refined, «silk_INVERSE32_varQ», «result_1», rest, «result_2», «silk_DIV32_varQ»}
-use Rattle.silk.specs.Gains.{atLeastOne, «inv_gain_Q31», «inv_gain_Q26», «x_sc_Q10», «ltp_scaled_inv_gain», «gain_adj_Q16»}
+use Rattle.gain_terms.specs.Gains.{atLeastOne, «inv_gain_Q31», «inv_gain_Q26», «x_sc_Q10», «ltp_scaled_inv_gain», «gain_adj_Q16»}
 use Rattle.analysis.specs.Filter.{prediction, filtered, analysis}
 use Rattle.silk.specs.State.{zeros, freshLag, freshState}
 use Rattle.shaping.specs.Taps.{shortPrediction, longPrediction}
@@ -28,27 +28,27 @@ use Rattle.levels.specs.Levels.{biased, «q1_Q0», above, atZero, atMinusOne, b
 use Rattle.path.specs.Path.{moved, candidateOf, termsOf, residualOf, pairFrom, pairOf, pair}
 use Rattle.path.specs.Taken.{raised, takenOwn, takenRings, taken}
 use Rattle.path.specs.Scaled.{scaledWords, scaledOwn, scaledPath}
-use Rattle.among.specs.Among.{swapOf, keepsFirst, copied, replaced, movedOver}
+use Rattle.steps.specs.Among.{swapOf, keepsFirst, copied, replaced, movedOver}
 use Rattle.penalty.specs.Penalty.{sameWord, raisedUnless, penalised}
 use Rattle.winner.specs.Winner.{leastOf, worstOf}
-use Rattle.samples.specs.Each.{moves, pairs as pairs-samples, takenAll}
-use Rattle.samples.specs.Settled.{leaving, replacing, settled}
-use Rattle.samples.specs.Sample.{tried as tried-samples, sample}
-use Rattle.paths.specs.Subframe.{backed, backs, moveBack, subframe}
-use Rattle.turns.specs.Turn.{tookFrom, took, putAt, put, turn}
-use Rattle.leaving.specs.Leaving.{leaves}
-use Rattle.shared.specs.Shared.{predicted as predicted-paths, harmonic, common}
+use Rattle.steps.specs.Each.{moves, pairs as pairs-samples, takenAll}
+use Rattle.steps.specs.Settled.{leaving, replacing, settled}
+use Rattle.steps.specs.Sample.{tried as tried-samples, sample}
+use Rattle.steps.specs.Subframe.{backed, backs, moveBack, subframe}
+use Rattle.steps.specs.Turn.{tookFrom, took, putAt, put, turn}
+use Rattle.steps.specs.Leaving.{leaves}
+use Rattle.steps.specs.Shared.{predicted as predicted-paths, harmonic, common}
 use Rattle.places.specs.Places.{down}
-use Rattle.scaling.specs.Scale.{filled, scaledPaths, scaledWork, scaled}
+use Rattle.steps.specs.Scale.{filled, scaledPaths, scaledWork, scaled}
 use Rattle.limits.specs.Tests.{outside, lengthAllowed, countAllowed, orderFor, oddZ, lengthsRefused, ordersRefused, pathsRefused, kindsRefused, gainRefused, someGain, gainsRefused, lagRefused, quietLagRefused, someLag, lastOf, lagsRefused}
 use Rattle.refusals.specs.Table.{eachRefused, rowsRefused, table, answerOf}
-use Rattle.calls.specs.Call.{delayOf, voicedBy, interpolatedBy, lowered, voicedDelay, quietDelay, delayBy, givenBy, lagBy, twiceBy, secondBy, rewhitesBy, sinceBy, rowBy, fixBy, halvesBy, rowsBy, whiteBy}
-use Rattle.beginning.specs.Begin.{zeroPath, zeroLpcs, zeroRings, ownFrom, startLpc, startRings, begun}
-use Rattle.edges.specs.Flush.{bestOf, fitMiddle, fitLast, flushAt, flushed, raisedPath, otherPath, othersRaised}
-use Rattle.frame.specs.Frame.{startPaths, start, flushedRun, middleBy, rewhitened, refilled, whitened, regained, flushedFirst, whitenedFirst, before, coded, step, priorBy, turnBy, run, leftBy, endedBy, frame}
-use Rattle.tails.specs.Tail.{movedDown, wordsFrom}
-use Rattle.nsq.specs.Entry.{answered, outcomeBy, outcome}
-use Rattle.calls.specs.Sizes.{sizesOf}
+use Rattle.steps.specs.Call.{delayOf, voicedBy, interpolatedBy, lowered, voicedDelay, quietDelay, delayBy, givenBy, lagBy, twiceBy, secondBy, rewhitesBy, sinceBy, rowBy, fixBy, halvesBy, rowsBy, whiteBy}
+use Rattle.steps.specs.Begin.{zeroPath, zeroLpcs, zeroRings, ownFrom, startLpc, startRings, begun}
+use Rattle.steps.specs.Flush.{bestOf, fitMiddle, fitLast, flushAt, flushed, raisedPath, otherPath, othersRaised}
+use Rattle.steps.specs.Frame.{startPaths, start, flushedRun, middleBy, rewhitened, refilled, whitened, regained, flushedFirst, whitenedFirst, before, coded, step, priorBy, turnBy, run, leftBy, endedBy, frame}
+use Rattle.steps.specs.Tail.{movedDown, wordsFrom}
+use Rattle.steps.specs.Entry.{answered, outcomeBy, outcome}
+use Rattle.steps.specs.Sizes.{sizesOf}
 use Rattle.neighbours.specs.Neighbours.{sameRow, given, differ, settingsOf, settings, stateOf, state, history, shapes, lpcs, filter, after, preds, ltps, ars, each, call, quiet, one, voiced, withPred, withLtp, withAr, withHarm, withTilt, withLags, shaped, pairs, lastLag, lastHistory, lastFilter, four, tight, tightSamples, byLate}
 
 -- all by one statement:

@@ -8,10 +8,10 @@ use Rattle.silk.specs.declared.structs.Settings.{Settings}
 use Rattle.silk.specs.declared.structs.NsqState.{NsqState}
 use Rattle.silk.specs.State.{freshState}
 use Rattle.path.specs.Data.{word}
-use Rattle.among.specs.Among.{keepsFirst}
+use Rattle.steps.specs.Among.{keepsFirst}
 use Rattle.limits.specs.Count.{sameZ}
-use Rattle.calls.specs.Call.{Call, callOf}
-use Rattle.nsq.specs.Entry.{Outcome, outcome}
+use Rattle.steps.specs.Call.{Call, callOf}
+use Rattle.steps.specs.Entry.{Outcome, outcome}
 
 -- ---- what is handed out
 -- are two rows the same?

@@ -10,19 +10,19 @@ use shifts::shift;
 pub fn pulse_of(q_q10: i32) -> i8
     ensures { λ r. ⌜ r ≡ pulseOf «q_q10» ⌝ }
 {
-    wrap::low8(shift::rshift_round10(q_q10))
+    wrap::low8(shift::rshift_round(q_q10, 10))
 }
 
 // The output sample at a gain of 10 binary places, as each coded sample and the last flush have it.
 pub fn xq_out8(xq_q14: i32, gain_q10: i32) -> i16
     ensures { λ r. ⌜ r ≡ xqOut «xq_q14» «gain_q10» 8 ⌝ }
 {
-    range::sat16(shift::rshift_round8(product::smulww(xq_q14, gain_q10)))
+    range::sat16(shift::rshift_round(product::smulww(xq_q14, gain_q10), 8))
 }
 
 // The output sample at a gain of 16 binary places, as the flush in the middle of a frame has it.
 pub fn xq_out14(xq_q14: i32, gain_q16: i32) -> i16
     ensures { λ r. ⌜ r ≡ xqOut «xq_q14» «gain_q16» 14 ⌝ }
 {
-    range::sat16(shift::rshift_round14(product::smulww(xq_q14, gain_q16)))
+    range::sat16(shift::rshift_round(product::smulww(xq_q14, gain_q16), 14))
 }

@@ -10,6 +10,6 @@ pub fn residual(n_ar: i32, n_lf: i32, n_ltp: i32, lpc_pred: i32, x_q10: i32) -> 
 {
     let noise = wrap::add32(n_ar, n_lf);
     let prediction = wrap::add32(n_ltp, lpc_pred);
-    let rounded = shift::rshift_round4(wrap::sub32(prediction, noise));
+    let rounded = shift::rshift_round(wrap::sub32(prediction, noise), 4);
     wrap::sub32(x_q10, rounded)
 }

@@ -10,9 +10,9 @@ use Rattle.refusals.specs.Code.{codeOf}
 use Rattle.limits.specs.Tests.{outside, lengthAllowed, countAllowed, orderFor, oddZ, lengthsRefused, ordersRefused, pathsRefused, kindsRefused, gainRefused, someGain, gainsRefused, lagRefused, quietLagRefused, someLag, lastOf, lagsRefused}
 use Rattle.refusals.specs.Table.{eachRefused, rowsRefused, table, answerOf}
 use Rattle.silk.specs.declared.structs.Settings.{Settings}
-use Rattle.calls.specs.Call.{Call, callOf}
-use Rattle.nsq.specs.Entry.{answered}
-use Rattle.calls.specs.Sizes.{sizesOf}
+use Rattle.steps.specs.Call.{Call, callOf}
+use Rattle.steps.specs.Entry.{answered}
+use Rattle.steps.specs.Sizes.{sizesOf}
 
 -- the settings: shaping order 2, one path, interpolation 4, all else 0
 set : ℤ → ℤ → ℤ → ℤ → Settings

@@ -1,4 +1,3 @@
 -- Outcomes: accepted and refused calls. Unique: one outcome. Examples: calls, by computation.
-pub mod Outcomes
 pub mod Unique
 pub mod Examples

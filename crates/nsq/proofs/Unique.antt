@@ -1,8 +1,8 @@
 -- The entry's contract leaves one outcome, for every call. Assumes nothing.
 use mathlib.Core.Path.{_≡_, sym, _∙_, ap}
 use denote.Ref.{now}
-use Rattle.nsq.specs.declared.entry.Answered.{Answered}
-use Rattle.nsq.specs.Entry.{Outcome}
+use Rattle.steps.specs.declared.structs.Answered.{Answered}
+use Rattle.steps.specs.Entry.{Outcome}
 use Rattle.nsq.proofs.entry.silk_NSQ_del_dec.Reads as entry
 
 -- what a call hands back beside its pulses

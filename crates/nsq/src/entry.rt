@@ -1,22 +1,16 @@
 // The call: document 01's refusals, then the frame.
 ghost use denote.Ref.{now};
 ghost use mathlib.Core.Path.{_≡_};
-ghost use Rattle.among.specs.Among.{keepsFirst};
-ghost use Rattle.calls.specs.Call.{callOf};
-ghost use Rattle.nsq.specs.Entry.{outcomeOf, outcome};
+ghost use Rattle.steps.specs.Among.{keepsFirst};
+ghost use Rattle.steps.specs.Call.{callOf};
+ghost use Rattle.steps.specs.Entry.{outcomeOf, outcome};
 use coding::accepted;
 use refusals::answer::Answer;
 use refusals::answer::Sizes;
 use refusals::check;
 use silk::structs::NsqState;
 use silk::structs::Settings;
-
-// What a call hands back beside its pulses.
-pub struct Answered {
-    pub answer: Answer,
-    pub seed: i32,
-    pub state: NsqState,
-}
+use steps::structs::Answered;
 
 // `silk_NSQ_del_dec_c`. Whatever it is given, the answer says whether the call was accepted, and if not, why: then the seed and
 // the state are those given and no pulse is touched.

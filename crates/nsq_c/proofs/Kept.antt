@@ -11,14 +11,14 @@ use lib.Dec.{eqb}
 use borrow.Author.Tests.{ne-eqb}
 use Rattle.fixed.specs.Iter.{either}
 use Rattle.silk.specs.declared.structs.NsqState.{NsqState}
-use Rattle.among.specs.Among.{keepsFirst}
+use Rattle.steps.specs.Among.{keepsFirst}
 use Rattle.path.specs.Data.{word}
 use Rattle.refusals.specs.declared.answer.Answer.{Answer}
 use Rattle.refusals.specs.Code.{codeOf}
-use Rattle.calls.specs.Call.{Call}
-use Rattle.frame.specs.Frame.{frame}
-use Rattle.nsq.specs.Entry.{Outcome, answered, taken, untouched, outcome, outcomeBy}
-use Rattle.nsq.proofs.Outcomes.{refused-by}
+use Rattle.steps.specs.Call.{Call}
+use Rattle.steps.specs.Frame.{frame}
+use Rattle.steps.specs.Entry.{Outcome, answered, taken, untouched, outcome, outcomeBy}
+use Rattle.steps.proofs.Outcomes.{refused-by}
 use Rattle.settings_row.specs.Named.{settingsOf}
 use Rattle.plain_rows.specs.Layout.{stateOf, scalarsOf, wordsOf}
 use Rattle.nsq_c.specs.Rows.{called}

@@ -4,11 +4,11 @@ use lib.ListN.{length}
 use lib.IntN.{ℤ}
 use lib.Dec.{eqb}
 use Rattle.fixed.specs.Iter.{either}
-use Rattle.among.specs.Among.{keepsFirst}
+use Rattle.steps.specs.Among.{keepsFirst}
 use Rattle.refusals.specs.declared.answer.Answer.the-variants.{Rows}
 use Rattle.refusals.specs.Code.{codeOf}
-use Rattle.calls.specs.Call.{Call, callOf}
-use Rattle.nsq.specs.Entry.{outcome}
+use Rattle.steps.specs.Call.{Call, callOf}
+use Rattle.steps.specs.Entry.{outcome}
 use Rattle.settings_row.specs.Named.{settingsOf}
 use Rattle.plain_rows.specs.Layout.{stateOf}
 use Rattle.plain_fresh.specs.Fresh.{stateFits}

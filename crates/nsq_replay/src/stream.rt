@@ -11,12 +11,12 @@ use crate::words::Stretch;
 use fixed::wrap;
 use limits::count;
 use nsq::entry;
-use nsq::entry::Answered;
 use plain_answers::answers;
 use prefixes::prefix;
 use settings_row::named;
 use silk::structs::NsqState;
 use silk::structs::Settings;
+use steps::structs::Answered;
 
 fn echo(text: &[u8], w: Stretch) {
     let from = w.from;

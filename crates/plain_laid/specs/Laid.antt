@@ -6,7 +6,7 @@ use lib.IntN.{ℤ}
 use lib.Dec.{eqb}
 use Rattle.fixed.specs.Iter.{either}
 use Rattle.refusals.specs.Code.{codeOf}
-use Rattle.nsq.specs.Entry.{Outcome}
+use Rattle.steps.specs.Entry.{Outcome}
 use Rattle.plain_rows.specs.Layout.{wordsOf}
 
 -- what `nsq_del_dec` leaves: document 01's number, and the rows of settings, samples, words and pulses

@@ -4,12 +4,12 @@ ghost use mathlib.Core.Path.{_≡_};
 ghost use mathlib.Core.List.{List};
 ghost use lib.ListN.{length};
 ghost use lib.IntN.{ℤ};
-ghost use Rattle.nsq.specs.Entry.{outcomeOf};
+ghost use Rattle.steps.specs.Entry.{outcomeOf};
 ghost use Rattle.plain_laid.specs.Laid.{leftOf, laid};
-use nsq::entry::Answered;
 use plain_answers::answers;
 use plain_rows::layout;
 use refusals::answer::Answer;
+use steps::structs::Answered;
 
 // What an accepted call hands back stands in the rows; a refused one leaves them. Returns the answer's number.
 pub fn lay(a: Answered, settings: &mut [i32], samples: &mut [i16], words: &mut [i32]) -> u32

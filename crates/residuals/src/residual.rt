@@ -29,7 +29,7 @@ pub fn signed_excitation(seed: i32, level: i32) -> i32
 pub fn pulse_of(level: i32) -> i32
     ensures { λ x. ⌜ x ≡ pulseOf level ⌝ }
 {
-    shift::rshift_round10(level)
+    shift::rshift_round(level, 10)
 }
 
 // The seed after the pulse of the kept level.

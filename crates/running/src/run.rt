@@ -6,12 +6,12 @@ ghost use lib.ListN.{length};
 ghost use lib.IntN.{pos};
 ghost use lib.Signed.{_≤ℤ_};
 ghost use Rattle.path.specs.Data.{running};
-ghost use Rattle.among.specs.Among.{keepsFirst};
-ghost use Rattle.calls.specs.Call.{Sound, Stocked};
-ghost use Rattle.frame.specs.Frame.{framedOf, runBy};
-use calls::call::Given;
+ghost use Rattle.steps.specs.Among.{keepsFirst};
+ghost use Rattle.steps.specs.Call.{Sound, Stocked};
+ghost use Rattle.steps.specs.Frame.{framedOf, runBy};
 use frame::step::Frame;
 use frame::turn;
+use steps::structs::Given;
 
 // One after the other.
 pub fn run(

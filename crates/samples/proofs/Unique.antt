@@ -3,7 +3,7 @@
 use mathlib.Core.Path.{_≡_, sym, _∙_, ap}
 use denote.Ref.{now}
 use Rattle.path.specs.declared.structs.Sampled.{Sampled}
-use Rattle.samples.specs.Settled.{Settled}
+use Rattle.steps.specs.Settled.{Settled}
 use Rattle.samples.proofs.sample.sample.Reads as sample
 
 -- the code's struct

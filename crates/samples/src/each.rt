@@ -3,7 +3,7 @@ ghost use mathlib.Core.Path.{_≡_};
 ghost use Prim.Native.Nat.{_+_, _<_, _≤_};
 ghost use lib.ListN.{length};
 ghost use Rattle.path.specs.Data.{paths};
-ghost use Rattle.samples.specs.Each.{moves as movesZ, pairs as pairsZ, takenAll};
+ghost use Rattle.steps.specs.Each.{moves as movesZ, pairs as pairsZ, takenAll};
 use path::structs::Candidate;
 use path::structs::Common;
 use path::structs::Fix;

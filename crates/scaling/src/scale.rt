@@ -6,7 +6,7 @@ ghost use lib.IntN.{ℤ};
 ghost use Rattle.path.specs.Data.{paths, running};
 ghost use Rattle.places.specs.Places.{Fits};
 ghost use Rattle.path.specs.Scaled.{scaledWords};
-ghost use Rattle.scaling.specs.Scale.{filled as filledZ, scaledPaths, scaledWork, scaled as scaledZ};
+ghost use Rattle.steps.specs.Scale.{filled as filledZ, scaledPaths, scaledWork, scaled as scaledZ};
 use path::scaled;
 use path::structs::Fix;
 use path::structs::Path;

@@ -3,12 +3,12 @@ ghost use mathlib.Core.Path.{_≡_};
 ghost use Prim.Native.Nat.{_+_, _<_, _≤_};
 ghost use lib.ListN.{length};
 ghost use Rattle.places.specs.Places.{Fits};
-ghost use Rattle.shared.specs.Shared.{predicted as predictedZ, harmonic as harmonicZ, commonFrom};
+ghost use Rattle.steps.specs.Shared.{predicted as predictedZ, harmonic as harmonicZ, commonFrom};
+use gain_terms::gains;
 use harmonic::terms as harmonic_terms;
 use path::structs::Common;
 use path::structs::Fix;
 use shaping::long_prediction;
-use silk::gains;
 
 // The long-term prediction, in a voiced frame.
 fn predicted(f: Fix, b: &[i16], ltp: &[i32; 640], i: usize) -> i32

@@ -2,7 +2,6 @@
 ghost use Prim.Native.Nat.{_≤_};
 use limits::count;
 use nsq::entry;
-use nsq::entry::Answered;
 use plain_answers::answers;
 use prefixes::prefix;
 use sheet_form::rows::Row16;
@@ -12,6 +11,7 @@ use sheet_form::sheet::Sheet;
 use sheet_text::text;
 use silk::structs::NsqState;
 use silk::structs::Settings;
+use steps::structs::Answered;
 
 // n, or all words of a row of m. A row that was read has no more than 320, so nothing is cut off.
 pub fn within(n: usize, m: usize) -> usize

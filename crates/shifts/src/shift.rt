@@ -17,48 +17,12 @@ pub fn shr32(x: i32, s: u32) -> i32
     x >> (s % 32)
 }
 
-// The rounded shift by s. The counts that the quantiser uses have a function each, below, which asks nothing.
-fn rshift_round(v: i32, s: u32) -> i32
+// The rounded shift by s. It asks for a count that the sum cannot overflow at; the quantiser's are 4, 5, 8, 10, 12 and 14.
+pub fn rshift_round(v: i32, s: u32) -> i32
     requires { ⌜ (2 ≤ s) × (s < 32) ⌝ }
     ensures { λ r. ⌜ r ≡ rround v s ⌝ }
 {
     ((v >> (s - 1)) + 1) >> 1
-}
-
-pub fn rshift_round4(v: i32) -> i32
-    ensures { λ r. ⌜ r ≡ rround v 4 ⌝ }
-{
-    rshift_round(v, 4)
-}
-
-pub fn rshift_round5(v: i32) -> i32
-    ensures { λ r. ⌜ r ≡ rround v 5 ⌝ }
-{
-    rshift_round(v, 5)
-}
-
-pub fn rshift_round8(v: i32) -> i32
-    ensures { λ r. ⌜ r ≡ rround v 8 ⌝ }
-{
-    rshift_round(v, 8)
-}
-
-pub fn rshift_round10(v: i32) -> i32
-    ensures { λ r. ⌜ r ≡ rround v 10 ⌝ }
-{
-    rshift_round(v, 10)
-}
-
-pub fn rshift_round12(v: i32) -> i32
-    ensures { λ r. ⌜ r ≡ rround v 12 ⌝ }
-{
-    rshift_round(v, 12)
-}
-
-pub fn rshift_round14(v: i32) -> i32
-    ensures { λ r. ⌜ r ≡ rround v 14 ⌝ }
-{
-    rshift_round(v, 14)
 }
 
 // The bitwise OR of two words.

@@ -1,2 +1,1 @@
-pub mod Gains
 pub mod State

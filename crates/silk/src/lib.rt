@@ -1,5 +1,3 @@
-// The parts of SILK on which the delayed-decision quantiser stands: its constants, settings and state, and what is made of a
-// gain.
+// The parts of SILK on which the delayed-decision quantiser stands: its constants, settings and state.
 pub mod define;
-pub mod gains;
 pub mod structs;

@@ -9,9 +9,9 @@ mod arguments;
 mod numbers;
 mod rows;
 
+use gain_terms::gains;
 use inverses::inlines;
 use seeds::generator;
-use silk::gains;
 
 fn main() {
     inverses();

@@ -6,11 +6,11 @@ use crate::fits;
 use crate::rows;
 use crate::settings;
 use crate::words;
+use gain_terms::gains;
 use path::structs::Fix;
 use path::structs::Work;
 use paths::subframe;
 use scaling::scale;
-use silk::gains;
 
 // The work row of a rewhitened subframe.
 fn rewhiten(ltp: &mut [i32; 640], f: Fix, c: usize, seed: i32)

@@ -11,12 +11,12 @@ use Rattle.path.specs.declared.structs.Fix.{Fix}
 use Rattle.path.specs.declared.structs.Common.{Common}
 use Rattle.path.specs.declared.structs.Sampled.{Sampled}
 use Rattle.path.specs.Data.{word, Running, running, Rows}
-use Rattle.among.specs.Among.{Rule}
-use Rattle.samples.specs.Settled.{Settled, settledOf}
-use Rattle.samples.specs.Sample.{sample}
-use Rattle.turns.specs.Turn.{tookFrom, took, putAt, put, turn}
-use Rattle.leaving.specs.Leaving.{leaves, emit}
-use Rattle.shared.specs.Shared.{predicted, commonFrom, common}
+use Rattle.steps.specs.Among.{Rule}
+use Rattle.steps.specs.Settled.{Settled, settledOf}
+use Rattle.steps.specs.Sample.{sample}
+use Rattle.steps.specs.Turn.{tookFrom, took, putAt, put, turn}
+use Rattle.steps.specs.Leaving.{leaves, emit}
+use Rattle.steps.specs.Shared.{predicted, commonFrom, common}
 use Rattle.places.specs.Places.{down, delayed}
 
 -- what is written, row by row

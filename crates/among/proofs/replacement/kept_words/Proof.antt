@@ -9,7 +9,7 @@ use mir.Syntax.{w32}
 use Rattle.fixed.proofs.Fit.{back}
 use Rattle.fixed.specs.Iter.{iter}
 use Rattle.fixed.proofs.Iters.{iter-more}
-use Rattle.among.specs.Among.{keepsFirst, keepTurn}
+use Rattle.steps.specs.Among.{keepsFirst, keepTurn}
 use Rattle.among.proofs.replacement.kept_words.Statement.{statement}
 use Rattle.among.proofs.replacement.kept_words.Tie as tie
 

@@ -1,6 +1,6 @@
 -- `among::replacement::moved_over` meets its contract. Assumes nothing.
 use borrow.Author.Needs.{needs}
-use Rattle.among.specs.Among.{movedOver}
+use Rattle.steps.specs.Among.{movedOver}
 use Rattle.among.proofs.replacement.moved_over.Statement.{statement}
 use Rattle.among.proofs.replacement.moved_over.Tie as tie
 

@@ -1,6 +1,6 @@
 -- `among::replacement::replaced` meets its contract. Assumes nothing.
 use borrow.Author.Needs.{needs}
-use Rattle.among.specs.Among.{replaced, copied}
+use Rattle.steps.specs.Among.{replaced, copied}
 use Rattle.among.proofs.replacement.replaced.Statement.{statement}
 use Rattle.among.proofs.replacement.replaced.Tie as tie
 

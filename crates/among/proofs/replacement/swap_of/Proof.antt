@@ -2,7 +2,7 @@
 use mathlib.Core.Path.{_≡_, ap, _∙_}
 use borrow.Author.Needs.{needs}
 use Rattle.path.specs.Data.{candidateAt}
-use Rattle.among.specs.Among.{swapOf}
+use Rattle.steps.specs.Among.{swapOf}
 use Rattle.path.proofs.Told.{candidate}
 use Rattle.among.proofs.replacement.swap_of.Statement.{statement}
 use Rattle.among.proofs.replacement.swap_of.Tie as tie

@@ -29,8 +29,8 @@ shl32-requires c κs = search needs
 sub32-requires : tie.Need-sub32-requires
 sub32-requires c κs = search needs
 
-rshift-round12-requires : tie.Need-rshift-round12-requires
-rshift-round12-requires c κs = search needs
+rshift-round-requires : tie.Need-rshift-round-requires
+rshift-round-requires c κs = search needs
 
 sat16-requires : tie.Need-sat16-requires
 sat16-requires c κs = search needs
@@ -48,7 +48,7 @@ returns c =
     let v0 = got32 (p5 .prediction .result) (p5 .prediction .ok) ∙ p5 .prediction .ensures in
     let v1 = got32 (p3 .shl32 .result) (p3 .shl32 .ok) ∙ rw (read x, read (fit16-32 x)) at (p3 .shl32 .ensures) in
     let v2 = got32 (p2 .sub32 .result) (p2 .sub32 .ok) ∙ rw (v1, v0) at (p2 .sub32 .ensures) in
-    let v3 = got32 (p1 .rshift-round12 .result) (p1 .rshift-round12 .ok) ∙ rw v2 at (p1 .rshift-round12 .ensures) in
+    let v3 = got32 (p1 .rshift-round .result) (p1 .rshift-round .ok) ∙ rw v2 at (p1 .rshift-round .ensures) in
     got16 (c .sat16 .result) (c .sat16 .ok) ∙ rw v3 at (c .sat16 .ensures)
 
 pub filtered-spec : {M : Type 1} → statement M
@@ -61,6 +61,6 @@ filtered-spec =
     cast-shl32
     shl32-requires
     sub32-requires
-    rshift-round12-requires
+    rshift-round-requires
     sat16-requires
     returns)

@@ -9,7 +9,7 @@ use mir.Syntax.{w32}
 use Rattle.fixed.proofs.Fit.{back}
 use Rattle.fixed.specs.Iter.{iter}
 use Rattle.fixed.proofs.Iters.{iter-more}
-use Rattle.beginning.specs.Begin.{startLpc, copyTurn}
+use Rattle.steps.specs.Begin.{startLpc, copyTurn}
 use Rattle.beginning.proofs.begin.start_lpc.Statement.{statement}
 use Rattle.beginning.proofs.begin.start_lpc.Tie as tie
 

@@ -5,7 +5,7 @@ use borrow.Author.Needs.{needs}
 use mir.Syntax.{w32}
 use mir.Facts.{toZ-pos}
 use Rattle.fixed.proofs.Fit.{read}
-use Rattle.beginning.specs.Begin.{ownFrom}
+use Rattle.steps.specs.Begin.{ownFrom}
 use Rattle.beginning.proofs.begin.start_own.Statement.{statement}
 use Rattle.beginning.proofs.begin.start_own.Tie as tie
 

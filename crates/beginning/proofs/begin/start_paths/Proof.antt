@@ -9,7 +9,7 @@ use Rattle.fixed.proofs.Fit.{read}
 use Rattle.fixed.specs.Iter.{iter}
 use Rattle.fixed.proofs.Iters.{iter-more}
 use Rattle.path.specs.Data.{paths}
-use Rattle.beginning.specs.Begin.{begun, beginTurn}
+use Rattle.steps.specs.Begin.{begun, beginTurn}
 use Rattle.beginning.proofs.begin.start_paths.Statement.{statement}
 use Rattle.beginning.proofs.begin.start_paths.Tie as tie
 

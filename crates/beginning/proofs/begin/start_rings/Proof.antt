@@ -1,7 +1,7 @@
 -- `beginning::begin::start_rings` meets its contract. Assumes nothing.
 use borrow.Author.Needs.{needs}
 use Rattle.fixed.proofs.Fit.{read}
-use Rattle.beginning.specs.Begin.{startRings}
+use Rattle.steps.specs.Begin.{startRings}
 use Rattle.beginning.proofs.begin.start_rings.Statement.{statement}
 use Rattle.beginning.proofs.begin.start_rings.Tie as tie
 

@@ -1,7 +1,7 @@
 -- `beginning::begin::zero_lpcs` meets its contract. Assumes nothing.
 use borrow.Author.Needs.{needs}
 use Rattle.silk.specs.State.{zeros}
-use Rattle.beginning.specs.Begin.{zeroLpcs}
+use Rattle.steps.specs.Begin.{zeroLpcs}
 use Rattle.beginning.proofs.begin.zero_lpcs.Statement.{statement}
 use Rattle.beginning.proofs.begin.zero_lpcs.Tie as tie
 

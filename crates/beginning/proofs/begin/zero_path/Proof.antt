@@ -1,7 +1,7 @@
 -- `beginning::begin::zero_path` meets its contract. Assumes nothing.
 use borrow.Author.Needs.{needs}
 use Rattle.silk.specs.State.{zeros}
-use Rattle.beginning.specs.Begin.{zeroPath}
+use Rattle.steps.specs.Begin.{zeroPath}
 use Rattle.beginning.proofs.begin.zero_path.Statement.{statement}
 use Rattle.beginning.proofs.begin.zero_path.Tie as tie
 

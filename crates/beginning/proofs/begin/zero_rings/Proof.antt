@@ -1,7 +1,7 @@
 -- `beginning::begin::zero_rings` meets its contract. Assumes nothing.
 use borrow.Author.Needs.{needs}
 use Rattle.silk.specs.State.{zeros}
-use Rattle.beginning.specs.Begin.{zeroRings}
+use Rattle.steps.specs.Begin.{zeroRings}
 use Rattle.beginning.proofs.begin.zero_rings.Statement.{statement}
 use Rattle.beginning.proofs.begin.zero_rings.Tie as tie
 

@@ -1,6 +1,6 @@
 -- `calls::call::delay` meets its contract. Assumes nothing.
 use borrow.Author.Needs.{needs}
-use Rattle.calls.specs.Call.{delayBy}
+use Rattle.steps.specs.Call.{delayBy}
 use Rattle.calls.proofs.call.delay.Statement.{statement}
 use Rattle.calls.proofs.call.delay.Tie as tie
 

@@ -5,7 +5,7 @@ use denote.Ref.{now}
 use Rattle.fixed.proofs.Fit.{read, got32}
 use Rattle.silk.proofs.Told.{settings}
 use Rattle.limits.specs.Count.{natZ}
-use Rattle.calls.specs.Call.{givenBy, voicedBy, interpolatedBy, delayBy}
+use Rattle.steps.specs.Call.{givenBy, voicedBy, interpolatedBy, delayBy}
 use Rattle.calls.proofs.call.given_of.Statement.{statement}
 use Rattle.calls.proofs.call.given_of.Tie as tie
 

@@ -4,7 +4,7 @@ use mathlib.Core.Bool.{not}
 use lib.IntN.{pos}
 use Rattle.fixed.proofs.Fit.{lit32}
 use Rattle.limits.proofs.Laws.{same-bits}
-use Rattle.calls.specs.Call.{interpolatedBy}
+use Rattle.steps.specs.Call.{interpolatedBy}
 use Rattle.calls.proofs.call.interpolated_by.Statement.{statement}
 use Rattle.calls.proofs.call.interpolated_by.Tie as tie
 

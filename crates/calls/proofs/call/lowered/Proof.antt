@@ -1,6 +1,6 @@
 -- `calls::call::lowered` meets its contract. Assumes nothing.
 use native.Mathlib.Omega.{arith}
-use Rattle.calls.specs.Call.{lowered}
+use Rattle.steps.specs.Call.{lowered}
 use Rattle.calls.proofs.call.lowered.Statement.{statement}
 use Rattle.calls.proofs.call.lowered.Tie as tie
 

@@ -2,7 +2,7 @@
 use borrow.Author.Tests.{lt-ltb, le-ltb}
 use native.Mathlib.Omega.{arith}
 use borrow.Author.Needs.{needs}
-use Rattle.calls.specs.Call.{quietDelay}
+use Rattle.steps.specs.Call.{quietDelay}
 use Rattle.calls.proofs.call.quiet_delay.Statement.{statement}
 use Rattle.calls.proofs.call.quiet_delay.Tie as tie
 

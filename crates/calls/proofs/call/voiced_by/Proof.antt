@@ -2,7 +2,7 @@
 use lib.IntN.{pos}
 use Rattle.fixed.proofs.Fit.{lit32}
 use Rattle.limits.proofs.Laws.{same-bits}
-use Rattle.calls.specs.Call.{voicedBy}
+use Rattle.steps.specs.Call.{voicedBy}
 use Rattle.calls.proofs.call.voiced_by.Statement.{statement}
 use Rattle.calls.proofs.call.voiced_by.Tie as tie
 

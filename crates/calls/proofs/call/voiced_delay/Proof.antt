@@ -10,7 +10,7 @@ use mir.Syntax.{w32}
 use Rattle.fixed.proofs.Fit.{back}
 use Rattle.fixed.specs.Iter.{iter}
 use Rattle.fixed.proofs.Iters.{iter-more}
-use Rattle.calls.specs.Call.{delayTurn, voicedDelay}
+use Rattle.steps.specs.Call.{delayTurn, voicedDelay}
 use Rattle.calls.proofs.call.voiced_delay.Statement.{statement}
 use Rattle.calls.proofs.call.voiced_delay.Tie as tie
 

@@ -11,8 +11,8 @@ use mir.Syntax.{w32}
 use Rattle.fixed.proofs.Fit.{read, back}
 use Rattle.path.specs.Data.{noPath, running}
 use Rattle.path.proofs.Told.{path}
-use Rattle.edges.specs.Flush.{Outs}
-use Rattle.frame.specs.Frame.{framedOf, flushedRun, Done, handedOut, endedWith, endedBy}
+use Rattle.steps.specs.Flush.{Outs}
+use Rattle.steps.specs.Frame.{framedOf, flushedRun, Done, handedOut, endedWith, endedBy}
 use Rattle.closing.proofs.end.ended.Statement.{statement}
 use Rattle.closing.proofs.end.ended.Tie as tie
 

@@ -3,7 +3,7 @@ use mathlib.Core.Path.{_∙_}
 use borrow.Author.Needs.{needs}
 use Rattle.fixed.proofs.Fit.{read, got32}
 use Rattle.path.proofs.Told.{path}
-use Rattle.frame.specs.Frame.{leftBy}
+use Rattle.steps.specs.Frame.{leftBy}
 use Rattle.closing.proofs.end.left.Statement.{statement}
 use Rattle.closing.proofs.end.left.Tie as tie
 

@@ -2,7 +2,7 @@
 use native.Mathlib.Omega.{arith}
 use mathlib.Core.Path.{refl}
 use borrow.Author.Needs.{needs}
-use Rattle.calls.proofs.Sound.{subframes-small}
+use Rattle.steps.proofs.Sound.{subframes-small}
 use Rattle.closing.proofs.end.times.Statement.{statement}
 use Rattle.closing.proofs.end.times.Tie as tie
 

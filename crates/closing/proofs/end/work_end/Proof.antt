@@ -4,7 +4,7 @@ use native.Mathlib.Omega.{arith}
 use borrow.Author.Needs.{needs}
 use mir.Syntax.{w32}
 use mir.Facts.{toZ-pos}
-use Rattle.calls.proofs.Sound.{since-few}
+use Rattle.steps.proofs.Sound.{since-few}
 use Rattle.closing.proofs.end.work_end.Statement.{statement}
 use Rattle.closing.proofs.end.work_end.Tie as tie
 

@@ -7,11 +7,11 @@ use borrow.Author.Needs.{needs}
 use denote.Ref.{now}
 use Rattle.fixed.specs.Iter.{iter}
 use Rattle.silk.specs.State.{zeros}
-use Rattle.among.specs.Among.{keepsFirst}
+use Rattle.steps.specs.Among.{keepsFirst}
 use Rattle.path.specs.Data.{Paths}
-use Rattle.calls.specs.Call.{Call, callOf, countOf}
-use Rattle.frame.specs.Frame.{Framed, Done, start, startPaths, subframeTurn, run, ended, frame}
-use Rattle.calls.proofs.Sound.{counts}
+use Rattle.steps.specs.Call.{Call, callOf, countOf}
+use Rattle.steps.specs.Frame.{Framed, Done, start, startPaths, subframeTurn, run, ended, frame}
+use Rattle.steps.proofs.Sound.{counts}
 use Rattle.coding.proofs.Ready.{ready, state}
 use Rattle.coding.proofs.accepted.coded.Statement.{statement}
 use Rattle.coding.proofs.accepted.coded.Tie as tie

@@ -9,7 +9,7 @@ use Rattle.fixed.specs.Iter.{iter}
 use Rattle.fixed.proofs.Iters.{iter-more}
 use Rattle.path.specs.Data.{noPath}
 use Rattle.path.proofs.Told.{path}
-use Rattle.edges.specs.Flush.{bestOf, bestTurn}
+use Rattle.steps.specs.Flush.{bestOf, bestTurn}
 use Rattle.edges.proofs.ends.best.Statement.{statement}
 use Rattle.edges.proofs.ends.best.Tie as tie
 

@@ -3,7 +3,7 @@ use mathlib.Core.Path.{_∙_}
 use borrow.Author.Needs.{needs}
 use mir.Syntax.{w16}
 use Rattle.fixed.proofs.Fit.{back, got32, read}
-use Rattle.edges.specs.Flush.{fitMiddle, fitLast}
+use Rattle.steps.specs.Flush.{fitMiddle, fitLast}
 use Rattle.edges.proofs.ends.fitted.Statement.{statement}
 use Rattle.edges.proofs.ends.fitted.Tie as tie
 

@@ -1,7 +1,7 @@
 -- `edges::ends::other` meets its contract. Assumes nothing.
 use borrow.Author.Tests.{eq-eqb, ne-eqb}
 use borrow.Author.Needs.{needs}
-use Rattle.edges.specs.Flush.{otherPath}
+use Rattle.steps.specs.Flush.{otherPath}
 use Rattle.edges.proofs.ends.other.Statement.{statement}
 use Rattle.edges.proofs.ends.other.Tie as tie
 

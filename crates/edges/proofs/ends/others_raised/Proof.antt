@@ -5,7 +5,7 @@ use native.Mathlib.Omega.{arith}
 use borrow.Author.Needs.{needs}
 use Rattle.fixed.specs.Iter.{iter}
 use Rattle.fixed.proofs.Iters.{iter-more}
-use Rattle.edges.specs.Flush.{othersRaised, othersTurn}
+use Rattle.steps.specs.Flush.{othersRaised, othersTurn}
 use Rattle.edges.proofs.ends.others_raised.Statement.{statement}
 use Rattle.edges.proofs.ends.others_raised.Tie as tie
 

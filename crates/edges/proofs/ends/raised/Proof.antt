@@ -1,7 +1,7 @@
 -- `edges::ends::raised` meets its contract. Assumes nothing.
 use borrow.Author.Needs.{needs}
 use Rattle.path.proofs.Told.{path}
-use Rattle.edges.specs.Flush.{raisedPath}
+use Rattle.steps.specs.Flush.{raisedPath}
 use Rattle.edges.proofs.ends.raised.Statement.{statement}
 use Rattle.edges.proofs.ends.raised.Tie as tie
 

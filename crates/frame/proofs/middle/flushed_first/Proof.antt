@@ -3,7 +3,7 @@ use mathlib.Core.Path.{_≡_, refl}
 use native.Mathlib.Omega.{arith}
 use borrow.Author.Needs.{needs}
 use Rattle.fixed.proofs.Fit.{read}
-use Rattle.frame.specs.Frame.{flushedFirst}
+use Rattle.steps.specs.Frame.{flushedFirst}
 use Rattle.frame.proofs.middle.flushed_first.Statement.{statement}
 use Rattle.frame.proofs.middle.flushed_first.Tie as tie
 

@@ -8,8 +8,8 @@ use denote.Ref.{now}
 use lib.IntN.{ℤ}
 use Rattle.fixed.proofs.Fit.{read}
 use Rattle.path.specs.Data.{Running, running}
-use Rattle.edges.specs.Flush.{Outs}
-use Rattle.frame.specs.Frame.{middleBy, middleWith, afterMiddle, flushedRun}
+use Rattle.steps.specs.Flush.{Outs}
+use Rattle.steps.specs.Frame.{middleBy, middleWith, afterMiddle, flushedRun}
 use Rattle.frame.proofs.middle.middle.Statement.{statement}
 use Rattle.frame.proofs.middle.middle.Tie as tie
 

@@ -6,7 +6,7 @@ use mir.Val.{SFits}
 use Rattle.fixed.proofs.Fit.{got32, read}
 use Rattle.path.proofs.Told.{fix}
 use Rattle.limits.proofs.Laws.{same-yes, same-no}
-use Rattle.frame.specs.Frame.{regained}
+use Rattle.steps.specs.Frame.{regained}
 use Rattle.frame.proofs.regain.regained.Statement.{statement}
 use Rattle.frame.proofs.regain.regained.Tie as tie
 

@@ -6,9 +6,9 @@ use denote.Ref.{now}
 use mir.Syntax.{w32}
 use Rattle.fixed.proofs.Fit.{back}
 use Rattle.path.specs.Data.{Running, running, rows}
-use Rattle.among.specs.Among.{keepsFirst}
+use Rattle.steps.specs.Among.{keepsFirst}
 use Rattle.path.proofs.Told.{fix}
-use Rattle.frame.specs.Frame.{Framed, framedOf, Whitened, coded, step}
+use Rattle.steps.specs.Frame.{Framed, framedOf, Whitened, coded, step}
 use Rattle.frame.proofs.step.step.Statement.{statement}
 use Rattle.frame.proofs.step.step.Tie as tie
 

@@ -6,7 +6,7 @@ use lib.ListN.{getD}
 use lib.IntN.{pos}
 use mir.Syntax.{w32}
 use Rattle.fixed.proofs.Fit.{back, got32}
-use Rattle.frame.specs.Frame.{priorBy}
+use Rattle.steps.specs.Frame.{priorBy}
 use Rattle.frame.proofs.turn.prior_of.Statement.{statement}
 use Rattle.frame.proofs.turn.prior_of.Tie as tie
 

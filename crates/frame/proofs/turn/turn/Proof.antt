@@ -1,9 +1,9 @@
 -- `frame::turn::turn` meets its contract. Assumes nothing.
 use native.Mathlib.Omega.{arith}
 use borrow.Author.Needs.{needs}
-use Rattle.calls.specs.Call.{rowsBy}
-use Rattle.frame.specs.Frame.{turnBy}
-use Rattle.calls.proofs.Sound.{row-few, may-of}
+use Rattle.steps.specs.Call.{rowsBy}
+use Rattle.steps.specs.Frame.{turnBy}
+use Rattle.steps.proofs.Sound.{row-few, may-of}
 use Rattle.frame.proofs.turn.turn.Statement.{statement}
 use Rattle.frame.proofs.turn.turn.Tie as tie
 

@@ -3,7 +3,7 @@ use mathlib.Core.Path.{_≡_}
 use Prim.Native.Nat.{_+_, _-_}
 use native.Mathlib.Omega.{arith}
 use borrow.Author.Needs.{needs}
-use Rattle.frame.specs.Frame.{rewhitened}
+use Rattle.steps.specs.Frame.{rewhitened}
 use Rattle.frame.proofs.white.rewhitened.Statement.{statement}
 use Rattle.frame.proofs.white.rewhitened.Tie as tie
 

@@ -1,6 +1,6 @@
 -- `leaving::emission::leaves` meets its contract. Assumes nothing.
 use borrow.Author.Needs.{needs}
-use Rattle.leaving.specs.Leaving.{leaves}
+use Rattle.steps.specs.Leaving.{leaves}
 use Rattle.leaving.proofs.emission.leaves.Statement.{statement}
 use Rattle.leaving.proofs.emission.leaves.Tie as tie
 

@@ -5,16 +5,16 @@ use denote.Ref.{now}
 use lib.IntN.{ℤ}
 use mir.Syntax.{w32}
 use Rattle.fixed.proofs.Fit.{back}
-use Rattle.among.specs.Among.{keepsFirst}
+use Rattle.steps.specs.Among.{keepsFirst}
 use Rattle.refusals.specs.declared.answer.Answer.{Answer}
 use Rattle.refusals.specs.Code.{codeOf}
 use Rattle.refusals.proofs.Matched.{tag-code, code-refused, good-matched}
-use Rattle.calls.specs.Call.{callOf}
-use Rattle.frame.specs.Frame.{Done}
-use Rattle.nsq.specs.Entry.{Outcome, outcomeOf, answered, taken, outcomeBy, outcome}
-use Rattle.calls.specs.Sizes.{sizesOf}
+use Rattle.steps.specs.Call.{callOf}
+use Rattle.steps.specs.Frame.{Done}
+use Rattle.steps.specs.Entry.{Outcome, outcomeOf, answered, taken, outcomeBy, outcome}
+use Rattle.steps.specs.Sizes.{sizesOf}
 use Rattle.coding.proofs.Ready.{state}
-use Rattle.nsq.proofs.Outcomes.{accepted-by, refused-by}
+use Rattle.steps.proofs.Outcomes.{accepted-by, refused-by}
 use Rattle.nsq.proofs.entry.silk_NSQ_del_dec.Statement.{statement}
 use Rattle.nsq.proofs.entry.silk_NSQ_del_dec.Tie as tie
 

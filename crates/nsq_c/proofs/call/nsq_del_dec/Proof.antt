@@ -4,7 +4,7 @@ use lib.ListN.{length}
 use borrow.Author.Needs.{needs}
 use borrow.Author.Tests.{eq-eqb, ne-eqb}
 use denote.Ref.{now}
-use Rattle.nsq.specs.Entry.{Outcome}
+use Rattle.steps.specs.Entry.{Outcome}
 use Rattle.nsq_c.specs.Rows.{called}
 use Rattle.plain_laid.specs.Laid.{Left, laid}
 use Rattle.plain_fresh.specs.Fresh.{stateFits}

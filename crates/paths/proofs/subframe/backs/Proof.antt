@@ -8,7 +8,7 @@ use lib.IntN.{ℤ}
 use lib.ListN.{set}
 use Rattle.fixed.specs.Iter.{iter}
 use Rattle.fixed.proofs.Iters.{iter-more}
-use Rattle.paths.specs.Subframe.{backs, backsTurn}
+use Rattle.steps.specs.Subframe.{backs, backsTurn}
 use Rattle.paths.proofs.subframe.backs.Statement.{statement}
 use Rattle.paths.proofs.subframe.backs.Tie as tie
 

@@ -10,9 +10,9 @@ use lib.ListN.{length}
 use Rattle.fixed.specs.Iter.{iter}
 use Rattle.fixed.proofs.Iters.{iter-more}
 use Rattle.path.specs.Data.{running, rows, Running}
-use Rattle.among.specs.Among.{keepsFirst}
-use Rattle.paths.specs.Subframe.{subframe, moveBack, withLpcs}
-use Rattle.turns.specs.Turn.{turn}
+use Rattle.steps.specs.Among.{keepsFirst}
+use Rattle.steps.specs.Subframe.{subframe, moveBack, withLpcs}
+use Rattle.steps.specs.Turn.{turn}
 use Rattle.paths.proofs.subframe.silk_noise_shape_quantizer_del_dec.Statement.{statement}
 use Rattle.paths.proofs.subframe.silk_noise_shape_quantizer_del_dec.Tie as tie
 

@@ -6,12 +6,12 @@ use Rattle.residuals.specs.Residual.{pulseOf}
 use Rattle.residuals.proofs.residual.pulse_of.Statement.{statement}
 use Rattle.residuals.proofs.residual.pulse_of.Tie as tie
 
-rshift-round10-requires : tie.Need-rshift-round10-requires
-rshift-round10-requires c κs = search needs
+rshift-round-requires : tie.Need-rshift-round-requires
+rshift-round-requires c κs = search needs
 
 returns : tie.Need-returns
 unfolding pulseOf
-returns c = got32 (c .rshift-round10 .result) (c .rshift-round10 .ok) ∙ rw (read (c .before .fits .level)) at (c .rshift-round10 .ensures)
+returns c = got32 (c .rshift-round .result) (c .rshift-round .ok) ∙ rw (read (c .before .fits .level)) at (c .rshift-round .ensures)
 
 pub pulse-of-spec : {M : Type 1} → statement M
-pulse-of-spec = tie.close (tie.spec rshift-round10-requires returns)
+pulse-of-spec = tie.close (tie.spec rshift-round-requires returns)

@@ -10,8 +10,8 @@ use lib.Signed.{_≤ℤ_}
 use Rattle.fixed.specs.Iter.{iter}
 use Rattle.fixed.proofs.Iters.{iter-more}
 use Rattle.path.specs.Data.{running}
-use Rattle.among.specs.Among.{keepsFirst}
-use Rattle.frame.specs.Frame.{Framed, framedOf, turnBy}
+use Rattle.steps.specs.Among.{keepsFirst}
+use Rattle.steps.specs.Frame.{Framed, framedOf, turnBy}
 use Rattle.running.proofs.run.run.Statement.{statement}
 use Rattle.running.proofs.run.run.Tie as tie
 

@@ -10,7 +10,7 @@ use Rattle.fixed.proofs.Iters.{iter-more}
 use Rattle.path.specs.declared.structs.Moved.{Moved}
 use Rattle.path.specs.declared.structs.Moves.{Moves}
 use Rattle.path.proofs.Told as told
-use Rattle.samples.specs.Each.{moves, moveTurn, unmoved}
+use Rattle.steps.specs.Each.{moves, moveTurn, unmoved}
 use Rattle.samples.proofs.each.moves.Statement.{statement}
 use Rattle.samples.proofs.each.moves.Tie as tie
 

@@ -12,7 +12,7 @@ use Rattle.fixed.specs.Iter.{iter}
 use Rattle.fixed.proofs.Iters.{iter-more}
 use Rattle.path.specs.declared.structs.Candidate.{Candidate}
 use Rattle.path.specs.Data.{word, noCandidate}
-use Rattle.samples.specs.Each.{pairs, pairTurn}
+use Rattle.steps.specs.Each.{pairs, pairTurn}
 use Rattle.samples.proofs.each.pairs.Statement.{statement}
 use Rattle.samples.proofs.each.pairs.Tie as tie
 

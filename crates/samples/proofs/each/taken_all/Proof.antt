@@ -7,7 +7,7 @@ use Rattle.fixed.specs.Iter.{iter}
 use Rattle.fixed.proofs.Iters.{iter-more}
 use Rattle.path.specs.Data.{paths}
 use Rattle.path.specs.Taken.{pathSet}
-use Rattle.samples.specs.Each.{takenAll, takeTurn}
+use Rattle.steps.specs.Each.{takenAll, takeTurn}
 use Rattle.samples.proofs.each.taken_all.Statement.{statement}
 use Rattle.samples.proofs.each.taken_all.Tie as tie
 

@@ -7,7 +7,7 @@ use lib.IntN.{ℤ}
 use mir.Syntax.{w32}
 use Rattle.fixed.proofs.Fit.{back}
 use Rattle.path.specs.Data.{Paths, ringAt, ringQ, ringXq, ringPred, ringShape}
-use Rattle.samples.specs.Settled.{leaving, Settled}
+use Rattle.steps.specs.Settled.{leaving, Settled}
 use Rattle.samples.proofs.sample.leaving.Statement.{statement}
 use Rattle.samples.proofs.sample.leaving.Tie as tie
 

@@ -4,10 +4,10 @@ use borrow.Author.Needs.{needs}
 use denote.Ref.{now}
 use Rattle.path.specs.declared.structs.Moves.{Moves}
 use Rattle.path.specs.Data.{Paths, paths}
-use Rattle.samples.specs.Each.{moves, pairs}
-use Rattle.among.specs.Among.{keepsFirst}
-use Rattle.samples.specs.Settled.{settled, Settled}
-use Rattle.samples.specs.Sample.{sample, tried}
+use Rattle.steps.specs.Each.{moves, pairs}
+use Rattle.steps.specs.Among.{keepsFirst}
+use Rattle.steps.specs.Settled.{settled, Settled}
+use Rattle.steps.specs.Sample.{sample, tried}
 use Rattle.samples.proofs.sample.sample.Statement.{statement}
 use Rattle.samples.proofs.sample.sample.Tie as tie
 

@@ -3,8 +3,8 @@ use mathlib.Core.Path.{_≡_, ap, _∙_}
 use borrow.Author.Needs.{needs}
 use denote.Ref.{now}
 use Rattle.path.specs.Data.{Paths, paths}
-use Rattle.among.specs.Among.{replaced, keepsFirst}
-use Rattle.samples.specs.Settled.{settled, replacing, Settled, leaving}
+use Rattle.steps.specs.Among.{replaced, keepsFirst}
+use Rattle.steps.specs.Settled.{settled, replacing, Settled, leaving}
 use Rattle.samples.proofs.sample.settled.Statement.{statement}
 use Rattle.samples.proofs.sample.settled.Tie as tie
 

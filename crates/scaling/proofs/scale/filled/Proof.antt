@@ -10,7 +10,7 @@ use Rattle.fixed.proofs.Fit.{back, got32, read}
 use Rattle.fixed.specs.Iter.{iter}
 use Rattle.fixed.proofs.Iters.{iter-more}
 use Rattle.path.specs.Data.{word}
-use Rattle.scaling.specs.Scale.{filled, fillTurn}
+use Rattle.steps.specs.Scale.{filled, fillTurn}
 use Rattle.scaling.proofs.scale.filled.Statement.{statement}
 use Rattle.scaling.proofs.scale.filled.Tie as tie
 

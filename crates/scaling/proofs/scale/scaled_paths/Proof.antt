@@ -11,7 +11,7 @@ use Rattle.fixed.specs.Iter.{iter}
 use Rattle.fixed.proofs.Iters.{iter-more}
 use Rattle.path.specs.Data.{paths}
 use Rattle.path.specs.Taken.{pathSet}
-use Rattle.scaling.specs.Scale.{scaledPaths, scalePathTurn}
+use Rattle.steps.specs.Scale.{scaledPaths, scalePathTurn}
 use Rattle.scaling.proofs.scale.scaled_paths.Statement.{statement}
 use Rattle.scaling.proofs.scale.scaled_paths.Tie as tie
 

@@ -2,7 +2,7 @@
 use native.Mathlib.Omega.{arith}
 use borrow.Author.Needs.{needs}
 use Rattle.fixed.proofs.Fit.{read}
-use Rattle.scaling.specs.Scale.{scaledWork}
+use Rattle.steps.specs.Scale.{scaledWork}
 use Rattle.scaling.proofs.scale.scaled_work.Statement.{statement}
 use Rattle.scaling.proofs.scale.scaled_work.Tie as tie
 

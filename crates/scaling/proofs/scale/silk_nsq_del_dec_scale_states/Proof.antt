@@ -7,7 +7,7 @@ use Prim.Native.Nat.{_*_}
 use Rattle.fixed.proofs.Fit.{read}
 use Rattle.path.specs.Data.{Paths, Running}
 use Rattle.path.specs.Scaled.{scaledWords}
-use Rattle.scaling.specs.Scale.{scaled, scaledWork}
+use Rattle.steps.specs.Scale.{scaled, scaledWork}
 use Rattle.scaling.proofs.scale.silk_nsq_del_dec_scale_states.Statement.{statement}
 use Rattle.scaling.proofs.scale.silk_nsq_del_dec_scale_states.Tie as tie
 

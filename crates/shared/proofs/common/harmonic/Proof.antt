@@ -4,7 +4,7 @@ use borrow.Author.Tests.{lt-ltb, le-ltb}
 use native.Mathlib.Omega.{arith}
 use borrow.Author.Needs.{needs}
 use Rattle.fixed.proofs.Fit.{got32, read}
-use Rattle.shared.specs.Shared.{harmonic}
+use Rattle.steps.specs.Shared.{harmonic}
 use Rattle.shared.proofs.common.harmonic.Statement.{statement}
 use Rattle.shared.proofs.common.harmonic.Tie as tie
 

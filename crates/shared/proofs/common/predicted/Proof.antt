@@ -3,7 +3,7 @@ use mathlib.Core.Path.{_∙_}
 use native.Mathlib.Omega.{arith}
 use borrow.Author.Needs.{needs}
 use Rattle.fixed.proofs.Fit.{got32}
-use Rattle.shared.specs.Shared.{predicted}
+use Rattle.steps.specs.Shared.{predicted}
 use Rattle.shared.proofs.common.predicted.Statement.{statement}
 use Rattle.shared.proofs.common.predicted.Tie as tie
 

@@ -8,7 +8,7 @@ use Rattle.fixed.proofs.Fit.{back}
 use Rattle.fixed.specs.Iter.{iter}
 use Rattle.fixed.proofs.Iters.{iter-more}
 use Rattle.path.specs.Data.{word}
-use Rattle.tails.specs.Tail.{movedDown, downTurn}
+use Rattle.steps.specs.Tail.{movedDown, downTurn}
 use Rattle.tails.proofs.tail.moved_down16.Statement.{statement}
 use Rattle.tails.proofs.tail.moved_down16.Tie as tie
 

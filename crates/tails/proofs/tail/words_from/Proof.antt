@@ -8,7 +8,7 @@ use Rattle.fixed.proofs.Fit.{back}
 use Rattle.fixed.specs.Iter.{iter}
 use Rattle.fixed.proofs.Iters.{iter-more}
 use Rattle.path.specs.Data.{word}
-use Rattle.tails.specs.Tail.{wordsFrom, wordsTurn}
+use Rattle.steps.specs.Tail.{wordsFrom, wordsTurn}
 use Rattle.tails.proofs.tail.words_from.Statement.{statement}
 use Rattle.tails.proofs.tail.words_from.Tie as tie
 

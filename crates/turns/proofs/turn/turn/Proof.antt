@@ -8,12 +8,12 @@ use mir.Syntax.{w32}
 use Rattle.fixed.proofs.Fit.{back, got32}
 use Rattle.path.specs.declared.structs.Common.{Common}
 use Rattle.path.specs.Data.{word, Running, running, rows}
-use Rattle.among.specs.Among.{keepsFirst}
-use Rattle.samples.specs.Settled.{Settled}
+use Rattle.steps.specs.Among.{keepsFirst}
+use Rattle.steps.specs.Settled.{Settled}
 use Rattle.path.proofs.Told.{sampled, fix, halves}
-use Rattle.turns.specs.Turn.{putAt}
-use Rattle.leaving.specs.Leaving.{leaves}
-use Rattle.shared.specs.Shared.{commonFrom, predicted}
+use Rattle.steps.specs.Turn.{putAt}
+use Rattle.steps.specs.Leaving.{leaves}
+use Rattle.steps.specs.Shared.{commonFrom, predicted}
 use Rattle.places.specs.Places.{delayed}
 use Rattle.turns.proofs.Turns.{written, turnWith, turn-is}
 use Rattle.turns.proofs.turn.turn.Statement.{statement}

@@ -10,8 +10,8 @@ use Rattle.path.proofs.structs.Path.taken.Tie as tie
 shl32-requires : tie.Need-shl32-requires
 shl32-requires c κs = search needs
 
-rshift-round10-requires : tie.Need-rshift-round10-requires
-rshift-round10-requires c κs = search needs
+rshift-round-requires : tie.Need-rshift-round-requires
+rshift-round-requires c κs = search needs
 
 add32-requires : tie.Need-add32-requires
 add32-requires c κs = search needs
@@ -79,7 +79,7 @@ returns c =
     let st = s .before .before .before .before .before in
     let k = candidate (st .args .c) (c .struct-told8 .given) in
     let p = path (st .args .self) (a .before .struct-told5 .given) in
-    let round = got32 (m .rshift-round10 .result) (m .rshift-round10 .ok) ∙ rw (k .q) at (m .rshift-round10 .ensures) in
+    let round = got32 (m .rshift-round .result) (m .rshift-round .ok) ∙ rw (k .q) at (m .rshift-round .ensures) in
     let pred = got32 (s .shl32 .result) (s .shl32 .ok) ∙ rw (k .exc) at (s .shl32 .ensures) in
     let seed = got32 (a .add32 .result) (a .add32 .ok) ∙ rw (p .seed, round) at (a .add32 .ensures) in
     simp (seed, pred, k .q, k .rd, k .xq, k .lf, k .diff, k .shp)
@@ -89,7 +89,7 @@ taken-spec =
     tie.close
     (tie.spec
     shl32-requires
-    rshift-round10-requires
+    rshift-round-requires
     add32-requires
     add-xq
     mul-xq

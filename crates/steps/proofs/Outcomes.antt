@@ -1,0 +1,23 @@
+-- The outcome of a call, taken apart: number 0 is the frame's, every other number leaves all as it was. Assumes nothing.
+use Prim.Native.Nat.{ℕ, _<_}
+use native.Mathlib.Omega.{arith}
+use mathlib.Core.Path.{_≡_, refl}
+use mathlib.Core.List.{List}
+use lib.IntN.{ℤ}
+use borrow.Author.Tests.{ne-eqb}
+use Rattle.steps.specs.Among.{Rule}
+use Rattle.refusals.specs.declared.answer.Answer.{Answer}
+use Rattle.refusals.specs.Code.{codeOf}
+use Rattle.steps.specs.Call.{Call}
+use Rattle.steps.specs.Frame.{frame}
+use Rattle.steps.specs.Entry.{outcomeBy, taken, untouched}
+
+-- number 0: pulses, seed and state of the frame
+pub accepted-by : (rule : Rule) (c : Call) (x out : List ℤ) (a : Answer) → codeOf a ≡ 0 → outcomeBy rule c x out a ≡ taken a (frame rule c x out)
+unfolding outcomeBy
+accepted-by rule c x out a e = rw e
+
+-- another number: pulses, seed and state as given
+pub refused-by : (rule : Rule) (c : Call) (x out : List ℤ) (a : Answer) → 0 < codeOf a → outcomeBy rule c x out a ≡ untouched a c out
+unfolding outcomeBy
+refused-by rule c x out a h = rw (ne-eqb (codeOf a) 0 (λ e. omega arith))

@@ -1,0 +1,16 @@
+pub mod Among
+pub mod Begin
+pub mod Call
+pub mod Each
+pub mod Entry
+pub mod Flush
+pub mod Frame
+pub mod Leaving
+pub mod Sample
+pub mod Scale
+pub mod Settled
+pub mod Shared
+pub mod Sizes
+pub mod Subframe
+pub mod Tail
+pub mod Turn

@@ -1,0 +1,2 @@
+// The scalars of each subframe of a call.
+pub mod scalars;
