@@ -1,4 +1,4 @@
--- `calls::call::fix_of` meets its contract. Assumes nothing.
+-- `subframes::scalars::fix_of` meets its contract. Assumes nothing.
 use mathlib.Core.Path.{_≡_, _∙_}
 use Prim.Native.Nat.{_*_, _≤_}
 use native.Mathlib.Omega.{arith}

@@ -1,4 +1,4 @@
--- `calls::call::halves_of` meets its contract. Assumes nothing.
+-- `subframes::scalars::halves_of` meets its contract. Assumes nothing.
 use mathlib.Core.Path.{_∙_}
 use borrow.Author.Needs.{needs}
 use denote.Ref.{now}

@@ -1,4 +1,4 @@
--- `calls::call::lag_of` meets its contract. Assumes nothing.
+-- `subframes::scalars::lag_of` meets its contract. Assumes nothing.
 use borrow.Author.Needs.{needs}
 use denote.Ref.{now}
 use lib.ListN.{getD}

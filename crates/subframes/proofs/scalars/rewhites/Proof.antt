@@ -1,4 +1,4 @@
--- `calls::call::rewhites` meets its contract. Assumes nothing.
+-- `subframes::scalars::rewhites` meets its contract. Assumes nothing.
 use borrow.Author.Tests.{eq-eqb, ne-eqb}
 use borrow.Author.Needs.{needs}
 use Rattle.steps.specs.Call.{rewhitesBy}

@@ -1,4 +1,4 @@
--- `calls::call::row_of` meets its contract. Assumes nothing.
+-- `subframes::scalars::row_of` meets its contract. Assumes nothing.
 use Rattle.steps.specs.Call.{rowBy}
 use Rattle.subframes.proofs.scalars.row_of.Statement.{statement}
 use Rattle.subframes.proofs.scalars.row_of.Tie as tie

@@ -1,4 +1,4 @@
--- `calls::call::second` meets its contract. Assumes nothing.
+-- `subframes::scalars::second` meets its contract. Assumes nothing.
 use mathlib.Core.Path.{_∙_, sym}
 use borrow.Author.Needs.{needs}
 use Rattle.steps.specs.Call.{secondBy}

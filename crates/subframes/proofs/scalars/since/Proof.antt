@@ -1,4 +1,4 @@
--- `calls::call::since` meets its contract. Assumes nothing.
+-- `subframes::scalars::since` meets its contract. Assumes nothing.
 use mathlib.Core.Path.{_≡_, _∙_, sym, refl}
 use mathlib.Core.Bool.{Bool, true, false, _&&_}
 use Prim.Native.Nat.{ℕ, _-_, _<_}

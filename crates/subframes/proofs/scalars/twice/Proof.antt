@@ -1,4 +1,4 @@
--- `calls::call::twice` meets its contract. Assumes nothing.
+-- `subframes::scalars::twice` meets its contract. Assumes nothing.
 use Rattle.steps.specs.Call.{twiceBy}
 use Rattle.subframes.proofs.scalars.twice.Statement.{statement}
 use Rattle.subframes.proofs.scalars.twice.Tie as tie

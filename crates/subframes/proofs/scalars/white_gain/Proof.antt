@@ -1,4 +1,4 @@
--- `calls::call::white_gain` meets its contract. Assumes nothing.
+-- `subframes::scalars::white_gain` meets its contract. Assumes nothing.
 use mathlib.Core.Path.{_≡_, _∙_}
 use borrow.Author.Tests.{eq-eqb, ne-eqb}
 use borrow.Author.Needs.{needs}
