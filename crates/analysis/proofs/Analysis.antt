@@ -7,7 +7,7 @@ use mathlib.Core.List.{List}
 use lib.ListN.{getD, length}
 use lib.IntN.{ℤ, pos}
 use Rattle.fixed.specs.Iter.{iter}
-use Rattle.analysis.specs.Filter.{filtered, filterTurn, analysis}
+use Rattle.word_steps.specs.Filter.{filtered, filterTurn, analysis}
 use Rattle.analysis.proofs.Fills.{fill-length, fill-apart, fill-at}
 
 module _ (out input b : List ℤ) (order : ℕ) where

@@ -2,7 +2,7 @@
 ghost use mathlib.Core.Path.{_≡_};
 ghost use Prim.Native.Nat.{_≤_, _<_};
 ghost use lib.ListN.{length};
-ghost use Rattle.analysis.specs.Filter.{prediction as predictionZ, filtered as filteredZ, analysis};
+ghost use Rattle.word_steps.specs.Filter.{prediction as predictionZ, filtered as filteredZ, analysis};
 use fixed::wrap;
 use products::product;
 use shifts::range;

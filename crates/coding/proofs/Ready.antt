@@ -11,7 +11,7 @@ use Rattle.silk.specs.declared.structs.NsqState.{NsqState}
 use Rattle.silk.proofs.structs.NsqState as state-type
 use Rattle.silk.proofs.structs.NsqState.Laws as state-laws
 use Rattle.path.proofs.Told.{Told, Back}
-use Rattle.refusals.specs.Good.{Good}
+use Rattle.refusal_rules.specs.Good.{Good}
 use Rattle.steps.specs.Call.{Call, givenOf, countOf, lengthOf, Sound, Stocked}
 use Rattle.steps.proofs.Sound.{sound-of, stocked-by, counts}
 use Rattle.steps.specs.Sizes.{sizesOf}

@@ -10,14 +10,14 @@ use lib.IntN.{ℤ, pos}
 use borrow.Author.Tests.{lt-ltb}
 use Rattle.fixed.specs.Iter.{either}
 use Rattle.silk.specs.declared.structs.Settings.{Settings}
-use Rattle.path.specs.Data.{word}
-use Rattle.refusals.specs.declared.answer.Answer.{Answer}
-use Rattle.refusals.specs.declared.answer.Answer.the-variants.{Accepted, Lengths, Orders, Paths, Kinds, Rows, Gains, Lags}
-use Rattle.refusals.specs.Code.{codeOf}
+use Rattle.fixed.specs.Row.{word}
+use Rattle.refusal_rules.specs.declared.answer.Answer.{Answer}
+use Rattle.refusal_rules.specs.declared.answer.Answer.the-variants.{Accepted, Lengths, Orders, Paths, Kinds, Rows, Gains, Lags}
+use Rattle.refusal_rules.specs.Code.{codeOf}
 use Rattle.limits.specs.Count.{natZ, sameZ}
-use Rattle.refusals.specs.Good.{QuietLag, GoodLength, GoodSettings, GoodLags, Good}
-use Rattle.refusals.proofs.Accept.{good}
-use Rattle.refusals.proofs.Room.{lag-above}
+use Rattle.refusal_rules.specs.Good.{QuietLag, GoodLength, GoodSettings, GoodLags, Good}
+use Rattle.refusal_rules.proofs.Accept.{good}
+use Rattle.refusal_rules.proofs.Room.{lag-above}
 use Rattle.steps.specs.Call.{Call, voicedBy, lowered, voicedDelay, quietDelay, delayBy, givenBy, givenOf, lengthOf, countOf, delayOf, lagBy, lagOf, Sound}
 use Rattle.steps.proofs.Sound.{sound-by, sound-of, counts}
 use Rattle.steps.specs.Entry.{answered}

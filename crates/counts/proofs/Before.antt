@@ -9,10 +9,11 @@ use lib.ListN.{length, take, drop}
 use lib.IntN.{ℤ, pos}
 use Rattle.fixed.specs.Iter.{iter}
 use Rattle.fixed.proofs.Iters.{iter-same, iter-rel, either-rel}
-use Rattle.gain_terms.specs.Gains.{«gain_adj_Q16»}
-use Rattle.analysis.specs.Filter.{tap, prediction, filtered, filterTurn, clearTurn, analysis}
+use Rattle.word_steps.specs.Gains.{«gain_adj_Q16»}
+use Rattle.word_steps.specs.Filter.{tap, prediction, filtered, filterTurn, clearTurn, analysis}
 use Rattle.path.specs.declared.structs.Fix.{Fix}
-use Rattle.path.specs.Data.{word, Running}
+use Rattle.fixed.specs.Row.{word}
+use Rattle.path.specs.Data.{Running}
 use Rattle.path.specs.Scaled.{scaleTurn, scaledWords}
 use Rattle.products.specs.Product.{smulww}
 use Rattle.steps.specs.Scale.{scaled}

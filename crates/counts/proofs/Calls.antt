@@ -11,9 +11,9 @@ use lib.Dec.{eqb, ltb}
 use borrow.Author.Tests.{ltb-true, ltb-false, not-true, not-false}
 use Rattle.fixed.specs.Iter.{either}
 use Rattle.fixed.specs.Wrap.{wrap16}
-use Rattle.gain_terms.specs.Gains.{«inv_gain_Q31», «ltp_scaled_inv_gain»}
-use Rattle.harmonic.specs.Harmonic.{packedGain}
-use Rattle.path.specs.Data.{word}
+use Rattle.word_steps.specs.Gains.{«inv_gain_Q31», «ltp_scaled_inv_gain»}
+use Rattle.word_steps.specs.Harmonic.{packedGain}
+use Rattle.fixed.specs.Row.{word}
 use Rattle.limits.specs.Count.{natZ, sameZ}
 use Rattle.limits.proofs.Laws.{same-true}
 use Rattle.steps.specs.declared.structs.Given.{Given}

@@ -7,7 +7,8 @@ use lib.ListN.{getD, set, length, length-set}
 use lib.IntN.{ℤ}
 use Rattle.fixed.proofs.Iters.{iter-rel}
 use Rattle.noise.specs.Output.{pulseOf}
-use Rattle.path.specs.Data.{word, Running, ringQ, ringXq, ringShape}
+use Rattle.fixed.specs.Row.{word}
+use Rattle.path.specs.Data.{Running, ringQ, ringXq, ringShape}
 use Rattle.steps.specs.Flush.{bestOf, fitMiddle, Outs, flushAt, flushTurn, flushed}
 use Rattle.steps.specs.Frame.{outsOf, flushedRun, middleBy}
 use Rattle.counts.proofs.Rows.{Below, below-grow, below-past}

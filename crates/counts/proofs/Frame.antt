@@ -5,7 +5,7 @@ use mathlib.Core.List.{List}
 use lib.IntN.{ℤ}
 use Rattle.fixed.specs.Iter.{iter}
 use Rattle.fixed.proofs.Iters.{iter-rel}
-use Rattle.path.specs.Data.{word}
+use Rattle.fixed.specs.Row.{word}
 use Rattle.steps.specs.Among.{Rule}
 use Rattle.steps.specs.declared.structs.Given.{Given}
 use Rattle.steps.specs.Call.{Call, countOf, secondBy, rewhitesBy, fixBy, rowsBy, whiteBy}

@@ -9,7 +9,8 @@ use borrow.Author.Tests.{leb-true, leb-false}
 use lib.IntN.{ℤ}
 use Rattle.noise.specs.Output.{pulseOf}
 use Rattle.path.specs.declared.structs.Fix.{Fix}
-use Rattle.path.specs.Data.{word, Running, Rows}
+use Rattle.fixed.specs.Row.{word}
+use Rattle.path.specs.Data.{Running, Rows}
 use Rattle.steps.specs.Among.{Rule}
 use Rattle.steps.specs.Subframe.{moveBack, subframe}
 use Rattle.steps.specs.Turn.{took, put, turn}

@@ -5,7 +5,7 @@ use native.Mathlib.Nat.{suc-mul}
 use mathlib.Core.Path.{_≡_, refl, ap}
 use mathlib.Core.List.{List}
 use lib.IntN.{ℤ}
-use Rattle.path.specs.Data.{word}
+use Rattle.fixed.specs.Row.{word}
 use Rattle.steps.specs.Among.{Rule}
 use Rattle.steps.specs.Call.{Call, givenOf, lengthOf, countOf, delayOf, secondBy, rewhitesBy, fixBy, fixOf, rowsOf, whiteGain, Sound}
 use Rattle.steps.specs.Flush.{bestOf, fitLast}

@@ -7,7 +7,7 @@ use mathlib.Core.List.{List}
 use lib.IntN.{ℤ, pos}
 use Rattle.limits.specs.Count.{sameZ}
 use Rattle.limits.specs.Tests.{quietLagRefused, someLag, lastOf, lagsRefused}
-use Rattle.refusals.specs.Table.{table, answerOf}
+use Rattle.refusal_rules.specs.Table.{table, answerOf}
 use Rattle.limits.proofs.Laws.{same-true, same-refl}
 use Rattle.steps.specs.Call.{Call}
 use Rattle.steps.specs.Entry.{answered}

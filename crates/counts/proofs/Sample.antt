@@ -19,7 +19,8 @@ use Rattle.path.specs.declared.structs.Path.{Path}
 use Rattle.path.specs.declared.structs.Fix.{Fix}
 use Rattle.path.specs.declared.structs.Common.{Common}
 use Rattle.path.specs.declared.structs.Moves.{Moves}
-use Rattle.path.specs.Data.{word, noPath, noCandidate, Paths, paths, Rows}
+use Rattle.fixed.specs.Row.{word}
+use Rattle.path.specs.Data.{noPath, noCandidate, Paths, paths, Rows}
 use Rattle.path.specs.Path.{filterOf, moved, termsOf, pairOf, pair}
 use Rattle.steps.specs.Among.{Rule}
 use Rattle.steps.specs.Each.{moveTurn, unmoved, moves, pairTurn, pairs}

@@ -12,11 +12,12 @@ use borrow.Author.Tests.{ltb-true, leb-true, leb-false}
 use lib.IntN.{ℤ}
 use Rattle.fixed.specs.Iter.{either}
 use Rattle.fixed.proofs.Iters.{iter-rel}
-use Rattle.harmonic.specs.Harmonic.{shapedLag, ltpTerm}
+use Rattle.word_steps.specs.Harmonic.{shapedLag, ltpTerm}
 use Rattle.noise.specs.Output.{pulseOf, xqOut}
 use Rattle.path.specs.declared.structs.Fix.{Fix}
 use Rattle.path.specs.declared.structs.Common.{Common}
-use Rattle.path.specs.Data.{word, Paths, Core, Running, Rows}
+use Rattle.fixed.specs.Row.{word}
+use Rattle.path.specs.Data.{Paths, Core, Running, Rows}
 use Rattle.steps.specs.Among.{Rule}
 use Rattle.steps.specs.Settled.{Settled}
 use Rattle.steps.specs.Subframe.{moveBack, subframe}

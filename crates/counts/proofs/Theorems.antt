@@ -9,9 +9,9 @@ use lib.ListN.{length}
 use lib.IntN.{ℤ}
 use lib.Dec.{eqb}
 use borrow.Author.Tests.{eqb-true, eqb-false}
-use Rattle.path.specs.Data.{word}
+use Rattle.fixed.specs.Row.{word}
 use Rattle.steps.specs.Among.{Rule}
-use Rattle.refusals.specs.Code.{codeOf}
+use Rattle.refusal_rules.specs.Code.{codeOf}
 use Rattle.limits.specs.Count.{natZ}
 use Rattle.steps.specs.Call.{Call, delayOf}
 use Rattle.steps.specs.Entry.{Outcome, answered, outcomeBy, outcome}

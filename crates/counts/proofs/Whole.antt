@@ -11,7 +11,8 @@ use Rattle.fixed.specs.Iter.{iter}
 use Rattle.fixed.proofs.Iters.{iter-same, iter-rel}
 use Rattle.silk.specs.State.{zeros}
 use Rattle.path.specs.declared.structs.Path.{Path}
-use Rattle.path.specs.Data.{word, noPath, Paths, paths}
+use Rattle.fixed.specs.Row.{word}
+use Rattle.path.specs.Data.{noPath, Paths, paths}
 use Rattle.steps.specs.Among.{Rule}
 use Rattle.limits.specs.Count.{natZ}
 use Rattle.limits.specs.Tests.{lastOf}
@@ -20,7 +21,7 @@ use Rattle.steps.specs.Call.{Call, givenOf, lengthOf, countOf, pathsOf, delayOf
 use Rattle.steps.specs.Begin.{zeroPath, zeroLpcs, zeroRings, copyTurn, startLpc, startRings, beginTurn, begun}
 use Rattle.steps.specs.Flush.{bestOf, fitLast, Outs}
 use Rattle.steps.specs.Frame.{Framed, startPaths, start, flushedRun, step, subframeTurn, run, Done, leftBy, handedOut, endedBy, ended, frame}
-use Rattle.steps.specs.Tail.{downTurn, movedDown, wordsTurn, wordsFrom}
+use Rattle.word_steps.specs.Tail.{downTurn, movedDown, wordsTurn, wordsFrom}
 use Rattle.counts.specs.Agree.{StateAgree, Agree}
 use Rattle.counts.proofs.Rows.{Below, below-at, below-less, below-set, below-all, from-alike, to-alike}
 use Rattle.counts.proofs.Subframe.{bound}

@@ -7,8 +7,8 @@ use lib.ListN.{length}
 use lib.IntN.{ℤ, pos}
 use Rattle.fixed.specs.Wrap.{wrap16}
 use Rattle.silk.specs.declared.structs.NsqState.{NsqState}
-use Rattle.path.specs.Data.{word}
-use Rattle.refusals.specs.Code.{codeOf}
+use Rattle.fixed.specs.Row.{word}
+use Rattle.refusal_rules.specs.Code.{codeOf}
 use Rattle.limits.specs.Count.{natZ}
 use Rattle.limits.specs.Tests.{lastOf}
 use Rattle.steps.specs.Call.{Call}

@@ -1,4 +1,5 @@
-pub mod Wrap
-pub mod Range
-pub mod Shift
 pub mod Iter
+pub mod Range
+pub mod Row
+pub mod Shift
+pub mod Wrap

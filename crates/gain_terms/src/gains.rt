@@ -2,7 +2,7 @@
 ghost use mathlib.Core.Path.{_≡_};
 ghost use lib.IntN.{pos};
 ghost use lib.Signed.{_≤ℤ_};
-ghost use Rattle.gain_terms.specs.Gains.{atLeastOne, «inv_gain_Q31» as invGainQ31, «inv_gain_Q26» as invGainQ26, «x_sc_Q10» as xScQ10, «ltp_scaled_inv_gain» as ltpScaledInvGain, «gain_adj_Q16» as gainAdjQ16};
+ghost use Rattle.word_steps.specs.Gains.{atLeastOne, «inv_gain_Q31» as invGainQ31, «inv_gain_Q26» as invGainQ26, «x_sc_Q10» as xScQ10, «ltp_scaled_inv_gain» as ltpScaledInvGain, «gain_adj_Q16» as gainAdjQ16};
 use fixed::wrap;
 use inverses::inlines;
 use products::product;

@@ -4,7 +4,7 @@ use mathlib.Core.Path.{_≡_, refl}
 use lib.IntN.{negsuc}
 use Rattle.fixed.specs.Wrap.{wrapTo, wrap32}
 use Rattle.fixed.specs.Shift.{shr, shr32, shl32, or32}
-use Rattle.harmonic.specs.Harmonic.{packedGain}
+use Rattle.word_steps.specs.Harmonic.{packedGain}
 
 -- the gain -1 packs to -1: a sum of the two halves would be -65537
 pub packed-by-or : packedGain (negsuc 0) ≡ negsuc 0

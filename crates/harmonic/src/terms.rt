@@ -1,7 +1,7 @@
 // The harmonic noise shaping, from three shaping words around the lag.
 ghost use mathlib.Core.Path.{_≡_};
 ghost use Prim.Native.Nat.{_≤_, _<_};
-ghost use Rattle.harmonic.specs.Harmonic.{packedGain, ltpTerm};
+ghost use Rattle.word_steps.specs.Harmonic.{packedGain, ltpTerm};
 use fixed::wrap;
 use products::product;
 use shifts::shift;

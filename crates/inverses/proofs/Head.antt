@@ -15,7 +15,7 @@ use mir.Val.{SFits, ofZ}
 use Rattle.fixed.specs.Range.{abs32}
 use Rattle.fixed.specs.Shift.{clz32, shl32, shr}
 use Rattle.fixed.proofs.Wraps.{wrap32-id}
-use Rattle.inverses.specs.Inlines.{headrm, nrm, «b32_inv»}
+use Rattle.word_steps.specs.Inlines.{headrm, nrm, «b32_inv»}
 
 small : (j a : ℕ) → 2 ^ j ≤ a → a < 2 ^ 31 → j ≤ 30
 small j a h k = go (decLe j 30)

@@ -12,7 +12,7 @@ use Rattle.fixed.specs.Wrap.{wrap32}
 use Rattle.fixed.specs.Shift.{shr, shl32, shr32}
 use Rattle.fixed.proofs.Lin.{eq-of, neg-lin}
 use Rattle.fixed.proofs.Wraps.{wrap32-id, wrap32-add-r}
-use Rattle.inverses.specs.Inlines.{«lshift_SAT32», «err_Q32», refined}
+use Rattle.word_steps.specs.Inlines.{«lshift_SAT32», «err_Q32», refined}
 
 -- a product by 1, and a quotient
 by-one : (n : ℕ) → negsuc n *ℤ pos 1 ≡ negsuc (n / 1)

@@ -3,7 +3,7 @@ ghost use mathlib.Core.Path.{_≡_};
 ghost use Prim.Native.Nat.{_<_};
 ghost use lib.IntN.{pos};
 ghost use lib.Signed.{_≤ℤ_};
-ghost use Rattle.inverses.specs.Inlines.{«silk_INVERSE32_varQ» as inverse32, «silk_DIV32_varQ» as div32};
+ghost use Rattle.word_steps.specs.Inlines.{«silk_INVERSE32_varQ» as inverse32, «silk_DIV32_varQ» as div32};
 use crate::inverse;
 
 // About 2^Qres / b32.

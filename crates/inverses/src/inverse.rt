@@ -3,7 +3,7 @@ ghost use mathlib.Core.Path.{_≡_};
 ghost use Prim.Native.Nat.{_≤_, _<_};
 ghost use lib.IntN.{pos};
 ghost use lib.Signed.{_≤ℤ_};
-ghost use Rattle.inverses.specs.Inlines.{headrm as headrmZ, nrm as nrmZ, «b32_inv» as b32Inv, «lshift_SAT32» as lshiftSat32, shifted as shiftedZ, refined as refinedZ, «result_2» as result2};
+ghost use Rattle.word_steps.specs.Inlines.{headrm as headrmZ, nrm as nrmZ, «b32_inv» as b32Inv, «lshift_SAT32» as lshiftSat32, shifted as shiftedZ, refined as refinedZ, «result_2» as result2};
 use fixed::wrap;
 use products::product;
 use shifts::range;

@@ -11,14 +11,14 @@ use Rattle.fixed.specs.Wrap.{wrapTo, wrap32, wrap16, wrap8}
 use Rattle.fixed.specs.Range.{clamp, sat16, minZ, abs32}
 use Rattle.products.specs.Product.{smulbb, smlabb, smulwb, smlawb, smulwt, smlawt, smulww, smlaww, smmul}
 use Rattle.seeds.specs.Generator.{rand}
-use Rattle.inverses.specs.Inlines.{headrm, nrm, «b32_inv», «lshift_SAT32», shifted, «err_Q32», refined, «silk_INVERSE32_varQ», «result_1», rest, «result_2», «silk_DIV32_varQ»}
-use Rattle.gain_terms.specs.Gains.{atLeastOne, «inv_gain_Q31», «inv_gain_Q26», «x_sc_Q10», «ltp_scaled_inv_gain», «gain_adj_Q16»}
-use Rattle.analysis.specs.Filter.{prediction, filtered, analysis}
+use Rattle.word_steps.specs.Inlines.{headrm, nrm, «b32_inv», «lshift_SAT32», shifted, «err_Q32», refined, «silk_INVERSE32_varQ», «result_1», rest, «result_2», «silk_DIV32_varQ»}
+use Rattle.word_steps.specs.Gains.{atLeastOne, «inv_gain_Q31», «inv_gain_Q26», «x_sc_Q10», «ltp_scaled_inv_gain», «gain_adj_Q16»}
+use Rattle.word_steps.specs.Filter.{prediction, filtered, analysis}
 use Rattle.silk.specs.State.{zeros, freshLag, freshState}
 use Rattle.shaping.specs.Taps.{shortPrediction, longPrediction}
 use Rattle.warped.specs.WarpedFilter.{warpedFilter}
 use Rattle.noise.specs.NoiseTerms.{arTerm, lfTerm}
-use Rattle.harmonic.specs.Harmonic.{packedGain, shapedLag, ltpTerm}
+use Rattle.word_steps.specs.Harmonic.{packedGain, shapedLag, ltpTerm}
 use Rattle.noise.specs.Residual.{predicted, residual}
 use Rattle.noise.specs.Output.{pulseOf, xqOut}
 use Rattle.residuals.specs.Offset.{offsetOf}
@@ -41,12 +41,12 @@ use Rattle.steps.specs.Shared.{predicted as predicted-paths, harmonic, common}
 use Rattle.places.specs.Places.{down}
 use Rattle.steps.specs.Scale.{filled, scaledPaths, scaledWork, scaled}
 use Rattle.limits.specs.Tests.{outside, lengthAllowed, countAllowed, orderFor, oddZ, lengthsRefused, ordersRefused, pathsRefused, kindsRefused, gainRefused, someGain, gainsRefused, lagRefused, quietLagRefused, someLag, lastOf, lagsRefused}
-use Rattle.refusals.specs.Table.{eachRefused, rowsRefused, table, answerOf}
+use Rattle.refusal_rules.specs.Table.{eachRefused, rowsRefused, table, answerOf}
 use Rattle.steps.specs.Call.{delayOf, voicedBy, interpolatedBy, lowered, voicedDelay, quietDelay, delayBy, givenBy, lagBy, twiceBy, secondBy, rewhitesBy, sinceBy, rowBy, fixBy, halvesBy, rowsBy, whiteBy}
 use Rattle.steps.specs.Begin.{zeroPath, zeroLpcs, zeroRings, ownFrom, startLpc, startRings, begun}
 use Rattle.steps.specs.Flush.{bestOf, fitMiddle, fitLast, flushAt, flushed, raisedPath, otherPath, othersRaised}
 use Rattle.steps.specs.Frame.{startPaths, start, flushedRun, middleBy, rewhitened, refilled, whitened, regained, flushedFirst, whitenedFirst, before, coded, step, priorBy, turnBy, run, leftBy, endedBy, frame}
-use Rattle.steps.specs.Tail.{movedDown, wordsFrom}
+use Rattle.word_steps.specs.Tail.{movedDown, wordsFrom}
 use Rattle.steps.specs.Entry.{answered, outcomeBy, outcome}
 use Rattle.steps.specs.Sizes.{sizesOf}
 use Rattle.neighbours.specs.Neighbours.{sameRow, given, differ, settingsOf, settings, stateOf, state, history, shapes, lpcs, filter, after, preds, ltps, ars, each, call, quiet, one, voiced, withPred, withLtp, withAr, withHarm, withTilt, withLags, shaped, pairs, lastLag, lastHistory, lastFilter, four, tight, tightSamples, byLate}

@@ -7,7 +7,7 @@ use lib.IntN.{ℤ, pos, negsuc}
 use Rattle.silk.specs.declared.structs.Settings.{Settings}
 use Rattle.silk.specs.declared.structs.NsqState.{NsqState}
 use Rattle.silk.specs.State.{freshState}
-use Rattle.path.specs.Data.{word}
+use Rattle.fixed.specs.Row.{word}
 use Rattle.steps.specs.Among.{keepsFirst}
 use Rattle.limits.specs.Count.{sameZ}
 use Rattle.steps.specs.Call.{Call, callOf}

@@ -6,9 +6,9 @@ use mathlib.Core.List.{List, [], _∷_}
 use lib.ListN.{replicate}
 use lib.IntN.{ℤ, pos}
 use Rattle.silk.specs.State.{zeros, freshLag, freshState}
-use Rattle.refusals.specs.Code.{codeOf}
+use Rattle.refusal_rules.specs.Code.{codeOf}
 use Rattle.limits.specs.Tests.{outside, lengthAllowed, countAllowed, orderFor, oddZ, lengthsRefused, ordersRefused, pathsRefused, kindsRefused, gainRefused, someGain, gainsRefused, lagRefused, quietLagRefused, someLag, lastOf, lagsRefused}
-use Rattle.refusals.specs.Table.{eachRefused, rowsRefused, table, answerOf}
+use Rattle.refusal_rules.specs.Table.{eachRefused, rowsRefused, table, answerOf}
 use Rattle.silk.specs.declared.structs.Settings.{Settings}
 use Rattle.steps.specs.Call.{Call, callOf}
 use Rattle.steps.specs.Entry.{answered}

@@ -12,9 +12,9 @@ use borrow.Author.Tests.{ne-eqb}
 use Rattle.fixed.specs.Iter.{either}
 use Rattle.silk.specs.declared.structs.NsqState.{NsqState}
 use Rattle.steps.specs.Among.{keepsFirst}
-use Rattle.path.specs.Data.{word}
-use Rattle.refusals.specs.declared.answer.Answer.{Answer}
-use Rattle.refusals.specs.Code.{codeOf}
+use Rattle.fixed.specs.Row.{word}
+use Rattle.refusal_rules.specs.declared.answer.Answer.{Answer}
+use Rattle.refusal_rules.specs.Code.{codeOf}
 use Rattle.steps.specs.Call.{Call}
 use Rattle.steps.specs.Frame.{frame}
 use Rattle.steps.specs.Entry.{Outcome, answered, taken, untouched, outcome, outcomeBy}

@@ -5,8 +5,8 @@ use lib.IntN.{ℤ}
 use lib.Dec.{eqb}
 use Rattle.fixed.specs.Iter.{either}
 use Rattle.steps.specs.Among.{keepsFirst}
-use Rattle.refusals.specs.declared.answer.Answer.the-variants.{Rows}
-use Rattle.refusals.specs.Code.{codeOf}
+use Rattle.refusal_rules.specs.declared.answer.Answer.the-variants.{Rows}
+use Rattle.refusal_rules.specs.Code.{codeOf}
 use Rattle.steps.specs.Call.{Call, callOf}
 use Rattle.steps.specs.Entry.{outcome}
 use Rattle.settings_row.specs.Named.{settingsOf}

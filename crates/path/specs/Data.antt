@@ -5,14 +5,11 @@ use Prim.Native.Nat.{ℕ}
 use mathlib.Core.List.{List, []}
 use lib.ListN.{getD, set}
 use lib.IntN.{ℤ, pos}
+use Rattle.fixed.specs.Row.{word}
 use Rattle.path.specs.declared.structs.Path.{Path}
 use Rattle.path.specs.declared.structs.Candidate.{Candidate}
 use Rattle.path.specs.declared.structs.Halves.{Halves}
 use Rattle.path.specs.declared.structs.Work.{Work}
-
--- word i of a row
-abbrev pub word : List ℤ → ℕ → ℤ
-word l i = getD l i (pos 0)
 
 -- what `getD` gives past the end of a list of paths, and of candidates
 abbrev pub noPath : Path

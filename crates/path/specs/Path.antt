@@ -22,7 +22,8 @@ use Rattle.path.specs.declared.structs.Halves.{Halves}
 use Rattle.path.specs.declared.structs.Common.{Common}
 use Rattle.path.specs.declared.structs.Terms.{Terms}
 use Rattle.path.specs.declared.structs.Moved.{Moved}
-use Rattle.path.specs.Data.{word, ringShape}
+use Rattle.fixed.specs.Row.{word}
+use Rattle.path.specs.Data.{ringShape}
 
 -- ---- the generator and the warped filter move on
 -- the path with the next seed and the filter words w

@@ -6,7 +6,8 @@ use lib.IntN.{ℤ}
 use Rattle.fixed.specs.Iter.{iter}
 use Rattle.products.specs.Product.{smulww}
 use Rattle.path.specs.declared.structs.Path.{Path}
-use Rattle.path.specs.Data.{word, ringPred, ringShape}
+use Rattle.fixed.specs.Row.{word}
+use Rattle.path.specs.Data.{ringPred, ringShape}
 use Rattle.path.specs.Taken.{Whole, whole}
 
 -- word a + j of a row: (gain_adj_Q16 * word) >> 16

@@ -6,8 +6,8 @@ use mathlib.Core.List.{List}
 use lib.IntN.{ℤ, pos}
 use Rattle.silk.specs.declared.structs.Settings.{Settings}
 use Rattle.limits.specs.Count.{natZ}
-use Rattle.refusals.specs.declared.answer.Sizes.{Sizes}
-use Rattle.refusals.specs.Table.{another, rowsRefused, table, answerOf}
+use Rattle.refusal_rules.specs.declared.answer.Sizes.{Sizes}
+use Rattle.refusal_rules.specs.Table.{another, rowsRefused, table, answerOf}
 use Rattle.plain_answers.specs.Stateless.{stateless}
 
 -- no words in any row

@@ -1,8 +1,8 @@
 -- The answer to a call whose state is in rows of another length. Assumes nothing.
 use Rattle.fixed.specs.Iter.{either}
 use Rattle.silk.specs.declared.structs.Settings.{Settings}
-use Rattle.refusals.specs.declared.answer.Answer.{Answer}
-use Rattle.refusals.specs.declared.answer.Answer.the-variants.{Lengths, Orders, Paths, Kinds, Rows}
+use Rattle.refusal_rules.specs.declared.answer.Answer.{Answer}
+use Rattle.refusal_rules.specs.declared.answer.Answer.the-variants.{Lengths, Orders, Paths, Kinds, Rows}
 use Rattle.limits.specs.Tests.{lengthsRefused, ordersRefused, pathsRefused, kindsRefused}
 
 -- a state's row has another length: the lowest of numbers 1 to 4 that the settings give, else 5

@@ -1,10 +1,10 @@
 // Answers as document 01's numbers.
 ghost use denote.Ref.{now};
 ghost use mathlib.Core.Path.{_≡_};
-ghost use Rattle.refusals.specs.Code.{codeOf};
+ghost use Rattle.refusal_rules.specs.Code.{codeOf};
 ghost use Rattle.plain_answers.specs.Stateless.{stateless};
-use refusals::answer::Answer;
-use refusals::answer::Sizes;
+use refusal_rules::answer::Answer;
+use refusal_rules::answer::Sizes;
 use refusals::check;
 use silk::structs::Settings;
 

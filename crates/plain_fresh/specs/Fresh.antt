@@ -7,8 +7,8 @@ use lib.IntN.{ℤ}
 use lib.Dec.{eqb}
 use Rattle.fixed.specs.Iter.{either}
 use Rattle.silk.specs.State.{freshState}
-use Rattle.refusals.specs.declared.answer.Answer.the-variants.{Accepted, Rows}
-use Rattle.refusals.specs.Code.{codeOf}
+use Rattle.refusal_rules.specs.declared.answer.Answer.the-variants.{Accepted, Rows}
+use Rattle.refusal_rules.specs.Code.{codeOf}
 use Rattle.plain_rows.specs.Layout.{wordsOf}
 
 -- what `nsq_fresh` leaves: its number and the two rows

@@ -5,7 +5,7 @@ use lib.ListN.{set}
 use lib.IntN.{ℤ}
 use lib.Dec.{eqb}
 use Rattle.fixed.specs.Iter.{either}
-use Rattle.refusals.specs.Code.{codeOf}
+use Rattle.refusal_rules.specs.Code.{codeOf}
 use Rattle.steps.specs.Entry.{Outcome}
 use Rattle.plain_rows.specs.Layout.{wordsOf}
 

@@ -8,7 +8,7 @@ ghost use Rattle.steps.specs.Entry.{outcomeOf};
 ghost use Rattle.plain_laid.specs.Laid.{leftOf, laid};
 use plain_answers::answers;
 use plain_rows::layout;
-use refusals::answer::Answer;
+use refusal_rules::answer::Answer;
 use steps::structs::Answered;
 
 // What an accepted call hands back stands in the rows; a refused one leaves them. Returns the answer's number.

@@ -4,7 +4,7 @@ use mathlib.Core.List.{List, [], _∷_, _++_}
 use lib.ListN.{take, drop}
 use lib.IntN.{ℤ}
 use Rattle.silk.specs.declared.structs.NsqState.{NsqState}
-use Rattle.path.specs.Data.{word}
+use Rattle.fixed.specs.Row.{word}
 
 -- the state in a row of 640 samples and one of 767 words
 unfoldable pub stateOf : List ℤ → List ℤ → NsqState

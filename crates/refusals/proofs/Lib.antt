@@ -1,8 +1,2 @@
--- Exactly: document 01's table, word for word. Accept: an accepted call is good. Room: what the frame takes of
--- that. Matched: a match on an answer. Examples: calls, by computation. Unique: each contract leaves one outcome.
-pub mod Exactly
-pub mod Accept
-pub mod Room
-pub mod Matched
-pub mod Examples
+-- Unique: each contract leaves one outcome.
 pub mod Unique

@@ -1,12 +1,12 @@
 // The answer of a call.
 ghost use denote.Ref.{now};
 ghost use mathlib.Core.Path.{_≡_};
-ghost use Rattle.refusals.specs.Table.{answerOf};
-use crate::answer::Answer;
-use crate::answer::Sizes;
+ghost use Rattle.refusal_rules.specs.Table.{answerOf};
 use crate::rows;
 use lag_limits::lags;
 use limits::gains;
+use refusal_rules::answer::Answer;
+use refusal_rules::answer::Sizes;
 use setting_limits::settings;
 use silk::structs::Settings;
 

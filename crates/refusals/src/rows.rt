@@ -1,9 +1,9 @@
 // Refusal 5: by the lengths of the rows.
 ghost use mathlib.Core.Path.{_≡_};
 ghost use Prim.Native.Nat.{ℕ};
-ghost use Rattle.refusals.specs.Table.{eachRefused, rowsRefused};
-use crate::answer::Sizes;
+ghost use Rattle.refusal_rules.specs.Table.{eachRefused, rowsRefused};
 use limits::count;
+use refusal_rules::answer::Sizes;
 
 // The rows that have one word for each subframe.
 fn each_refused(n: usize, z: Sizes, gains: usize, lags: usize) -> bool

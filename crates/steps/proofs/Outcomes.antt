@@ -6,8 +6,8 @@ use mathlib.Core.List.{List}
 use lib.IntN.{ℤ}
 use borrow.Author.Tests.{ne-eqb}
 use Rattle.steps.specs.Among.{Rule}
-use Rattle.refusals.specs.declared.answer.Answer.{Answer}
-use Rattle.refusals.specs.Code.{codeOf}
+use Rattle.refusal_rules.specs.declared.answer.Answer.{Answer}
+use Rattle.refusal_rules.specs.Code.{codeOf}
 use Rattle.steps.specs.Call.{Call}
 use Rattle.steps.specs.Frame.{frame}
 use Rattle.steps.specs.Entry.{outcomeBy, taken, untouched}

@@ -13,12 +13,12 @@ use lib.Dec.{eqb, leb, ltb}
 use borrow.Author.Tests.{eqb-true, eqb-false, le-leb}
 use Rattle.fixed.proofs.Iters.{iter-keeps, iter-inv, either-all}
 use Rattle.silk.specs.declared.structs.Settings.{Settings}
-use Rattle.path.specs.Data.{word}
+use Rattle.fixed.specs.Row.{word}
 use Rattle.places.specs.Places.{Fits}
 use Rattle.limits.specs.Count.{natZ, sameZ}
-use Rattle.refusals.specs.declared.answer.Sizes.{Sizes}
-use Rattle.refusals.specs.Good.{GoodOrder, QuietLag, GoodSettings, GoodLags, Good}
-use Rattle.refusals.proofs.Room.{lag-above, start-above, subframe-within}
+use Rattle.refusal_rules.specs.declared.answer.Sizes.{Sizes}
+use Rattle.refusal_rules.specs.Good.{GoodOrder, QuietLag, GoodSettings, GoodLags, Good}
+use Rattle.refusal_rules.proofs.Room.{lag-above, start-above, subframe-within}
 use Rattle.steps.specs.declared.structs.Given.{Given}
 use Rattle.steps.specs.Call.{Call, voicedBy, lowered, delayTurn, voicedDelay, quietDelay, delayBy, givenBy, givenOf, lagBy, twiceBy, secondBy, rewhitesBy, sinceBy, rowBy, fixBy, fixOf, countOf, Sound, Stocked, Room}
 

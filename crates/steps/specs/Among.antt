@@ -8,7 +8,8 @@ use lib.Signed.{ltZ}
 use Rattle.fixed.specs.Iter.{iter, either}
 use Rattle.path.specs.declared.structs.Candidate.{Candidate}
 use Rattle.path.specs.declared.structs.Swap.{Swap}
-use Rattle.path.specs.Data.{word, noPath, Paths, paths, candidateAt}
+use Rattle.fixed.specs.Row.{word}
+use Rattle.path.specs.Data.{noPath, Paths, paths, candidateAt}
 use Rattle.winner.specs.Winner.{leastOf, worstOf}
 
 -- the dearest first candidate by the cheapest second one, only if that is strictly cheaper

@@ -7,7 +7,8 @@ use lib.IntN.{ℤ, pos}
 use Rattle.fixed.specs.Iter.{iter}
 use Rattle.silk.specs.State.{zeros}
 use Rattle.path.specs.declared.structs.Path.{Path}
-use Rattle.path.specs.Data.{word, Paths, paths, ringShape}
+use Rattle.fixed.specs.Row.{word}
+use Rattle.path.specs.Data.{Paths, paths, ringShape}
 use Rattle.path.specs.Taken.{whole, pathSet}
 
 -- ---- the four paths before any is begun

@@ -12,12 +12,13 @@ use lib.Dec.{eqb, leb, ltb}
 use Rattle.fixed.specs.Iter.{iter, either}
 use Rattle.silk.specs.declared.structs.Settings.{Settings}
 use Rattle.silk.specs.declared.structs.NsqState.{NsqState}
-use Rattle.gain_terms.specs.Gains.{«inv_gain_Q31», «inv_gain_Q26», «ltp_scaled_inv_gain»}
+use Rattle.word_steps.specs.Gains.{«inv_gain_Q31», «inv_gain_Q26», «ltp_scaled_inv_gain»}
 use Rattle.residuals.specs.Offset.{offsetOf}
-use Rattle.harmonic.specs.Harmonic.{packedGain}
+use Rattle.word_steps.specs.Harmonic.{packedGain}
 use Rattle.path.specs.declared.structs.Fix.{Fix}
 use Rattle.path.specs.declared.structs.Halves.{Halves}
-use Rattle.path.specs.Data.{word, Rows, rows}
+use Rattle.fixed.specs.Row.{word}
+use Rattle.path.specs.Data.{Rows, rows}
 use Rattle.limits.specs.Count.{natZ, sameZ}
 use Rattle.steps.specs.declared.structs.Given.{Given}
 

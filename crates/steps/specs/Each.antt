@@ -11,7 +11,8 @@ use Rattle.path.specs.declared.structs.Fix.{Fix}
 use Rattle.path.specs.declared.structs.Halves.{Halves}
 use Rattle.path.specs.declared.structs.Common.{Common}
 use Rattle.path.specs.declared.structs.Moves.{Moves}
-use Rattle.path.specs.Data.{word, noPath, noCandidate, Paths, candidateAt}
+use Rattle.fixed.specs.Row.{word}
+use Rattle.path.specs.Data.{noPath, noCandidate, Paths, candidateAt}
 use Rattle.path.specs.Path.{moved, pair}
 use Rattle.path.specs.Taken.{taken, pathAt, pathSet}
 

@@ -7,9 +7,9 @@ use lib.Dec.{eqb}
 use Rattle.fixed.specs.Iter.{either}
 use Rattle.silk.specs.declared.structs.NsqState.{NsqState}
 use Rattle.steps.specs.Among.{Rule}
-use Rattle.refusals.specs.declared.answer.Answer.{Answer}
-use Rattle.refusals.specs.Code.{codeOf}
-use Rattle.refusals.specs.Table.{answerOf}
+use Rattle.refusal_rules.specs.declared.answer.Answer.{Answer}
+use Rattle.refusal_rules.specs.Code.{codeOf}
+use Rattle.refusal_rules.specs.Table.{answerOf}
 use Rattle.steps.specs.Call.{Call}
 use Rattle.steps.specs.Sizes.{sizesOf}
 use Rattle.steps.specs.Frame.{Done, frame}

@@ -12,7 +12,8 @@ use Rattle.fixed.specs.Wrap.{wrap32}
 use Rattle.fixed.specs.Shift.{shr32}
 use Rattle.noise.specs.Output.{pulseOf, xqOut}
 use Rattle.path.specs.declared.structs.Path.{Path}
-use Rattle.path.specs.Data.{word, noPath, paths, Running, ringQ, ringXq, ringShape}
+use Rattle.fixed.specs.Row.{word}
+use Rattle.path.specs.Data.{noPath, paths, Running, ringQ, ringXq, ringShape}
 use Rattle.path.specs.Taken.{penalty}
 
 -- one path more in the search of the least running cost

@@ -7,11 +7,12 @@ use lib.IntN.{ℤ, pos}
 use Rattle.fixed.specs.Iter.{iter, either}
 use Rattle.silk.specs.State.{zeros}
 use Rattle.silk.specs.declared.structs.NsqState.{NsqState}
-use Rattle.gain_terms.specs.Gains.{«gain_adj_Q16»}
-use Rattle.analysis.specs.Filter.{analysis}
+use Rattle.word_steps.specs.Gains.{«gain_adj_Q16»}
+use Rattle.word_steps.specs.Filter.{analysis}
 use Rattle.path.specs.declared.structs.Path.{Path}
 use Rattle.path.specs.declared.structs.Fix.{Fix}
-use Rattle.path.specs.Data.{word, noPath, Paths, paths, Core, Running, Rows}
+use Rattle.fixed.specs.Row.{word}
+use Rattle.path.specs.Data.{noPath, Paths, paths, Core, Running, Rows}
 use Rattle.steps.specs.Among.{Rule}
 use Rattle.steps.specs.Subframe.{subframe}
 use Rattle.steps.specs.Scale.{filled, scaled}
@@ -21,7 +22,7 @@ use Rattle.steps.specs.declared.structs.Prior.{Prior}
 use Rattle.steps.specs.Call.{Call, givenOf, lengthOf, countOf, pathsOf, sinceBy, secondBy, rewhitesBy, fixBy, rowsBy, whiteBy}
 use Rattle.steps.specs.Begin.{zeroPath, zeroLpcs, zeroRings, begun}
 use Rattle.steps.specs.Flush.{bestOf, fitMiddle, fitLast, Outs, flushed, othersRaised}
-use Rattle.steps.specs.Tail.{movedDown, wordsFrom}
+use Rattle.word_steps.specs.Tail.{movedDown, wordsFrom}
 
 -- a frame in work: what a subframe works on, the filtered history, and the gain of the subframe before
 pub record Framed : Type 0 where

@@ -12,5 +12,4 @@ pub mod Settled
 pub mod Shared
 pub mod Sizes
 pub mod Subframe
-pub mod Tail
 pub mod Turn

@@ -8,7 +8,8 @@ use lib.IntN.{ℤ}
 use Rattle.fixed.specs.Iter.{iter, either}
 use Rattle.products.specs.Product.{smulwb}
 use Rattle.path.specs.declared.structs.Fix.{Fix}
-use Rattle.path.specs.Data.{word, Paths, Running}
+use Rattle.fixed.specs.Row.{word}
+use Rattle.path.specs.Data.{Paths, Running}
 use Rattle.path.specs.Taken.{pathAt, pathSet}
 use Rattle.path.specs.Scaled.{scaledWords, scaledPath}
 

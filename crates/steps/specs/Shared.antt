@@ -5,12 +5,13 @@ use mathlib.Core.List.{List}
 use lib.IntN.{ℤ, pos}
 use lib.Dec.{ltb}
 use Rattle.fixed.specs.Iter.{either}
-use Rattle.gain_terms.specs.Gains.{«x_sc_Q10»}
+use Rattle.word_steps.specs.Gains.{«x_sc_Q10»}
 use Rattle.shaping.specs.Taps.{longPrediction}
-use Rattle.harmonic.specs.Harmonic.{ltpTerm}
+use Rattle.word_steps.specs.Harmonic.{ltpTerm}
 use Rattle.path.specs.declared.structs.Fix.{Fix}
 use Rattle.path.specs.declared.structs.Common.{Common}
-use Rattle.path.specs.Data.{word, Running, Rows}
+use Rattle.fixed.specs.Row.{word}
+use Rattle.path.specs.Data.{Running, Rows}
 
 -- LTP_pred_Q14 at sample i: five work-row words around the place a lag back, only in a voiced frame
 unfoldable pub predicted : Fix → List ℤ → List ℤ → ℕ → ℤ

@@ -2,7 +2,7 @@
 use mathlib.Core.List.{List}
 use lib.ListN.{length}
 use lib.IntN.{ℤ}
-use Rattle.refusals.specs.declared.answer.Sizes.{Sizes}
+use Rattle.refusal_rules.specs.declared.answer.Sizes.{Sizes}
 use Rattle.steps.specs.Call.{Call}
 
 -- how long the rows are of a call with samples x and a row `out` for its pulses

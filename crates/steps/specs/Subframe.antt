@@ -5,7 +5,8 @@ use lib.ListN.{getD, set}
 use lib.IntN.{ℤ}
 use Rattle.fixed.specs.Iter.{iter}
 use Rattle.path.specs.declared.structs.Fix.{Fix}
-use Rattle.path.specs.Data.{word, paths, Running, Rows}
+use Rattle.fixed.specs.Row.{word}
+use Rattle.path.specs.Data.{paths, Running, Rows}
 use Rattle.steps.specs.Among.{Rule}
 use Rattle.steps.specs.Turn.{turn}
 

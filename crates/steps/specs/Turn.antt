@@ -8,7 +8,8 @@ use Rattle.fixed.specs.Shift.{shr32}
 use Rattle.noise.specs.Output.{pulseOf, xqOut}
 use Rattle.path.specs.declared.structs.Fix.{Fix}
 use Rattle.path.specs.declared.structs.Common.{Common}
-use Rattle.path.specs.Data.{word, Paths, Running, Rows}
+use Rattle.fixed.specs.Row.{word}
+use Rattle.path.specs.Data.{Paths, Running, Rows}
 use Rattle.steps.specs.Among.{Rule}
 use Rattle.steps.specs.Settled.{Settled}
 use Rattle.steps.specs.Sample.{sample}

@@ -1,6 +1,6 @@
 // What the definition is spoken over beside a path's own words: the settings of a call as counts, what comes before a subframe, and an
 // answer.
-use refusals::answer::Answer;
+use refusal_rules::answer::Answer;
 use silk::structs::NsqState;
 
 // The settings of an accepted call, turned once into counts, and what they decide for the whole frame.

@@ -1,7 +1,7 @@
 // The rows that a frame leaves for the next one.
 ghost use mathlib.Core.Path.{_≡_};
 ghost use Prim.Native.Nat.{_+_, _≤_};
-ghost use Rattle.steps.specs.Tail.{movedDown, wordsFrom};
+ghost use Rattle.word_steps.specs.Tail.{movedDown, wordsFrom};
 
 // m words of the sample history move down by s.
 pub fn moved_down16(row: &mut [i16; 640], s: usize, m: usize)

@@ -10,7 +10,8 @@ use Rattle.noise.specs.Output.{pulseOf, xqOut}
 use Rattle.path.specs.declared.structs.Fix.{Fix}
 use Rattle.path.specs.declared.structs.Common.{Common}
 use Rattle.path.specs.declared.structs.Sampled.{Sampled}
-use Rattle.path.specs.Data.{word, Running, running, Rows}
+use Rattle.fixed.specs.Row.{word}
+use Rattle.path.specs.Data.{Running, running, Rows}
 use Rattle.steps.specs.Among.{Rule}
 use Rattle.steps.specs.Settled.{Settled, settledOf}
 use Rattle.steps.specs.Sample.{sample}

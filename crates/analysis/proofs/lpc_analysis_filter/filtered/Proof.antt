@@ -7,7 +7,7 @@ use lib.ListN.{getD}
 use Rattle.fixed.proofs.Fit.{got16, got32, fit, read, fit16-32}
 use mir.Syntax.{w16}
 use mir.Val.{SFits}
-use Rattle.analysis.specs.Filter.{filtered}
+use Rattle.word_steps.specs.Filter.{filtered}
 use Rattle.analysis.proofs.lpc_analysis_filter.filtered.Statement.{statement}
 use Rattle.analysis.proofs.lpc_analysis_filter.filtered.Tie as tie
 

@@ -10,7 +10,7 @@ use mir.Val.{toZ}
 use Rattle.fixed.specs.Iter.{iter}
 use Rattle.fixed.proofs.Fit.{got16, got32}
 use Rattle.fixed.proofs.Iters.{iter-more}
-use Rattle.analysis.specs.Filter.{tap, prediction}
+use Rattle.word_steps.specs.Filter.{tap, prediction}
 use Rattle.analysis.proofs.lpc_analysis_filter.prediction.Statement.{statement}
 use Rattle.analysis.proofs.lpc_analysis_filter.prediction.Tie as tie
 

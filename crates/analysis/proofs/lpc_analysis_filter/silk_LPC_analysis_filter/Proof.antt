@@ -8,7 +8,7 @@ use denote.Ref.{now}
 use Rattle.fixed.specs.Iter.{iter}
 use Rattle.fixed.proofs.Fit.{got16}
 use Rattle.fixed.proofs.Iters.{iter-more}
-use Rattle.analysis.specs.Filter.{filterTurn, clearTurn, analysis}
+use Rattle.word_steps.specs.Filter.{filterTurn, clearTurn, analysis}
 use Rattle.analysis.proofs.lpc_analysis_filter.silk_LPC_analysis_filter.Statement.{statement}
 use Rattle.analysis.proofs.lpc_analysis_filter.silk_LPC_analysis_filter.Tie as tie
 

@@ -5,7 +5,7 @@ use native.Mathlib.Omega.{arith}
 use borrow.Author.Needs.{needs}
 use denote.Ref.{now}
 use Rattle.fixed.proofs.Fit.{got32}
-use Rattle.path.specs.Data.{word}
+use Rattle.fixed.specs.Row.{word}
 use Rattle.steps.specs.Frame.{Framed, Done, endedBy}
 use Rattle.coding.proofs.accepted.rest.Statement.{statement}
 use Rattle.coding.proofs.accepted.rest.Tie as tie

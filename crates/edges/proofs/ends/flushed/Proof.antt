@@ -13,7 +13,8 @@ use Rattle.fixed.proofs.Fit.{back, read}
 use Rattle.fixed.specs.Iter.{iter, either}
 use Rattle.fixed.proofs.Iters.{iter-more}
 use Rattle.noise.specs.Output.{pulseOf}
-use Rattle.path.specs.Data.{word, ringQ, ringXq, ringShape}
+use Rattle.fixed.specs.Row.{word}
+use Rattle.path.specs.Data.{ringQ, ringXq, ringShape}
 use Rattle.steps.specs.Flush.{flushed, flushTurn, flushAt, outs, fitMiddle, fitLast}
 use Rattle.edges.proofs.ends.flushed.Statement.{statement}
 use Rattle.edges.proofs.ends.flushed.Tie as tie

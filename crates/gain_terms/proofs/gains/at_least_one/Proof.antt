@@ -4,7 +4,7 @@ use native.Mathlib.Omega.{arith}
 use lib.IntN.{pos}
 use Rattle.fixed.proofs.Fit.{read, test32, lit32}
 use Rattle.fixed.proofs.Lin.{le-of-lin, lt-true}
-use Rattle.gain_terms.specs.Gains.{atLeastOne}
+use Rattle.word_steps.specs.Gains.{atLeastOne}
 use Rattle.gain_terms.proofs.gains.at_least_one.Statement.{statement}
 use Rattle.gain_terms.proofs.gains.at_least_one.Tie as tie
 

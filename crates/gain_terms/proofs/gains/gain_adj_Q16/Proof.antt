@@ -1,7 +1,7 @@
 -- `silk::gains::gain_adj_Q16` meets its contract. Assumes nothing.
 use mathlib.Core.Path.{_∙_}
 use borrow.Author.Needs.{needs}
-use Rattle.gain_terms.specs.Gains.{«gain_adj_Q16»}
+use Rattle.word_steps.specs.Gains.{«gain_adj_Q16»}
 use Rattle.fixed.proofs.Fit.{read, got32}
 use Rattle.gain_terms.proofs.gains.gain_adj_Q16.Statement.{statement}
 use Rattle.gain_terms.proofs.gains.gain_adj_Q16.Tie as tie

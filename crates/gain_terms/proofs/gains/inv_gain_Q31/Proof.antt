@@ -1,7 +1,7 @@
 -- `silk::gains::inv_gain_Q31` meets its contract. Assumes nothing.
 use mathlib.Core.Path.{_∙_}
 use borrow.Author.Needs.{needs}
-use Rattle.gain_terms.specs.Gains.{«inv_gain_Q31»}
+use Rattle.word_steps.specs.Gains.{«inv_gain_Q31»}
 use Rattle.fixed.proofs.Fit.{read, got32}
 use Rattle.gain_terms.proofs.gains.inv_gain_Q31.Statement.{statement}
 use Rattle.gain_terms.proofs.gains.inv_gain_Q31.Tie as tie

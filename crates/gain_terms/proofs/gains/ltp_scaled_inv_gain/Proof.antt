@@ -1,7 +1,7 @@
 -- `silk::gains::ltp_scaled_inv_gain` meets its contract. Assumes nothing.
 use mathlib.Core.Path.{_∙_}
 use borrow.Author.Needs.{needs}
-use Rattle.gain_terms.specs.Gains.{«ltp_scaled_inv_gain»}
+use Rattle.word_steps.specs.Gains.{«ltp_scaled_inv_gain»}
 use Rattle.fixed.proofs.Fit.{read, got32, got16}
 use Rattle.gain_terms.proofs.gains.ltp_scaled_inv_gain.Statement.{statement}
 use Rattle.gain_terms.proofs.gains.ltp_scaled_inv_gain.Tie as tie

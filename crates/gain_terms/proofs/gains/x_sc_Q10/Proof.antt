@@ -1,7 +1,7 @@
 -- `silk::gains::x_sc_Q10` meets its contract. Assumes nothing.
 use mathlib.Core.Path.{_∙_}
 use borrow.Author.Needs.{needs}
-use Rattle.gain_terms.specs.Gains.{«x_sc_Q10»}
+use Rattle.word_steps.specs.Gains.{«x_sc_Q10»}
 use Rattle.fixed.proofs.Fit.{read, got32}
 use Rattle.gain_terms.proofs.gains.x_sc_Q10.Statement.{statement}
 use Rattle.gain_terms.proofs.gains.x_sc_Q10.Tie as tie

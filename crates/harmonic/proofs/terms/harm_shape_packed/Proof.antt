@@ -2,7 +2,7 @@
 use mathlib.Core.Path.{_∙_}
 use borrow.Author.Needs.{needs}
 use Rattle.fixed.proofs.Fit.{read, got32}
-use Rattle.harmonic.specs.Harmonic.{packedGain}
+use Rattle.word_steps.specs.Harmonic.{packedGain}
 use Rattle.harmonic.proofs.terms.harm_shape_packed.Statement.{statement}
 use Rattle.harmonic.proofs.terms.harm_shape_packed.Tie as tie
 

@@ -2,7 +2,7 @@
 use mathlib.Core.Path.{_∙_}
 use borrow.Author.Needs.{needs}
 use Rattle.fixed.proofs.Fit.{read, got32, got16}
-use Rattle.harmonic.specs.Harmonic.{shapedLag, ltpTerm}
+use Rattle.word_steps.specs.Harmonic.{shapedLag, ltpTerm}
 use Rattle.harmonic.proofs.terms.n_LTP.Statement.{statement}
 use Rattle.harmonic.proofs.terms.n_LTP.Tie as tie
 

@@ -2,7 +2,7 @@
 use Prim.Native.Nat.{_^_}
 use mir.Syntax.{w32}
 use Rattle.fixed.specs.Shift.{shr}
-use Rattle.inverses.specs.Inlines.{«b32_inv»}
+use Rattle.word_steps.specs.Inlines.{«b32_inv»}
 use Rattle.fixed.proofs.Fit.{read, fit-shr}
 use Rattle.inverses.proofs.Head.{inv-fits}
 use Rattle.inverses.proofs.inverse.b32_inv.Statement.{statement}

@@ -4,7 +4,7 @@ use native.Mathlib.Omega.{arith}
 use borrow.Author.Needs.{needs}
 use Rattle.fixed.specs.Range.{abs32}
 use Rattle.fixed.specs.Shift.{clz32}
-use Rattle.inverses.specs.Inlines.{headrm}
+use Rattle.word_steps.specs.Inlines.{headrm}
 use Rattle.fixed.proofs.Fit.{read, got32}
 use Rattle.inverses.proofs.Head.{room}
 use Rattle.inverses.proofs.inverse.headrm.Statement.{statement}

@@ -1,7 +1,7 @@
 -- `silk::inverse::lshift_SAT32` meets its contract. Assumes nothing.
 use mathlib.Core.Path.{_∙_}
 use borrow.Author.Needs.{needs}
-use Rattle.inverses.specs.Inlines.{«lshift_SAT32»}
+use Rattle.word_steps.specs.Inlines.{«lshift_SAT32»}
 use Rattle.fixed.proofs.Fit.{read, got32}
 use Rattle.inverses.proofs.inverse.lshift_SAT32.Statement.{statement}
 use Rattle.inverses.proofs.inverse.lshift_SAT32.Tie as tie

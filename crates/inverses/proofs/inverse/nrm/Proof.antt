@@ -3,7 +3,7 @@ use mathlib.Core.Path.{_≡_, _∙_}
 use borrow.Author.Needs.{needs}
 use mir.Syntax.{w32}
 use mir.Val.{toZ, ofZ}
-use Rattle.inverses.specs.Inlines.{nrm}
+use Rattle.word_steps.specs.Inlines.{nrm}
 use Rattle.fixed.proofs.Fit.{read, got32}
 use Rattle.inverses.proofs.Head.{nrm-low}
 use Rattle.inverses.proofs.inverse.nrm.Statement.{statement}

@@ -1,7 +1,7 @@
 -- `silk::inverse::refined` meets its contract. Assumes nothing.
 use mathlib.Core.Path.{_∙_}
 use borrow.Author.Needs.{needs}
-use Rattle.inverses.specs.Inlines.{refined, «err_Q32»}
+use Rattle.word_steps.specs.Inlines.{refined, «err_Q32»}
 use Rattle.fixed.proofs.Fit.{read, got32, got16}
 use Rattle.inverses.proofs.inverse.refined.Statement.{statement}
 use Rattle.inverses.proofs.inverse.refined.Tie as tie

@@ -1,7 +1,7 @@
 -- `silk::inverse::result_2` meets its contract. Assumes nothing.
 use mathlib.Core.Path.{_∙_}
 use borrow.Author.Needs.{needs}
-use Rattle.inverses.specs.Inlines.{«result_2», rest, «result_1»}
+use Rattle.word_steps.specs.Inlines.{«result_2», rest, «result_1»}
 use Rattle.fixed.proofs.Fit.{read, got32, got16}
 use Rattle.inverses.proofs.inverse.result_2.Statement.{statement}
 use Rattle.inverses.proofs.inverse.result_2.Tie as tie

@@ -2,7 +2,7 @@
 use mathlib.Core.Path.{_∙_}
 use borrow.Author.Needs.{needs}
 use borrow.Author.Tests.{le-leb, lt-leb, lt-ltb, le-ltb}
-use Rattle.inverses.specs.Inlines.{shifted}
+use Rattle.word_steps.specs.Inlines.{shifted}
 use Rattle.fixed.proofs.Fit.{read, got32}
 use Rattle.inverses.proofs.inverse.shifted.Statement.{statement}
 use Rattle.inverses.proofs.inverse.shifted.Tie as tie

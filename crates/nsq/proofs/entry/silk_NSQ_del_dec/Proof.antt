@@ -6,9 +6,9 @@ use lib.IntN.{ℤ}
 use mir.Syntax.{w32}
 use Rattle.fixed.proofs.Fit.{back}
 use Rattle.steps.specs.Among.{keepsFirst}
-use Rattle.refusals.specs.declared.answer.Answer.{Answer}
-use Rattle.refusals.specs.Code.{codeOf}
-use Rattle.refusals.proofs.Matched.{tag-code, code-refused, good-matched}
+use Rattle.refusal_rules.specs.declared.answer.Answer.{Answer}
+use Rattle.refusal_rules.specs.Code.{codeOf}
+use Rattle.refusal_rules.proofs.Matched.{tag-code, code-refused, good-matched}
 use Rattle.steps.specs.Call.{callOf}
 use Rattle.steps.specs.Frame.{Done}
 use Rattle.steps.specs.Entry.{Outcome, outcomeOf, answered, taken, outcomeBy, outcome}

@@ -9,7 +9,7 @@ use mir.Val.{toZ}
 use Rattle.fixed.proofs.Fit.{back, got32, read}
 use Rattle.fixed.specs.Iter.{iter}
 use Rattle.fixed.proofs.Iters.{iter-more}
-use Rattle.path.specs.Data.{word}
+use Rattle.fixed.specs.Row.{word}
 use Rattle.path.specs.Scaled.{scaledWords, scaleTurn}
 use Rattle.path.proofs.scaled.scaled_words.Statement.{statement}
 use Rattle.path.proofs.scaled.scaled_words.Tie as tie

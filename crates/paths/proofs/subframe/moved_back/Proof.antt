@@ -9,7 +9,7 @@ use mir.Syntax.{w32}
 use Rattle.fixed.proofs.Fit.{back}
 use Rattle.fixed.specs.Iter.{iter}
 use Rattle.fixed.proofs.Iters.{iter-more}
-use Rattle.path.specs.Data.{word}
+use Rattle.fixed.specs.Row.{word}
 use Rattle.steps.specs.Subframe.{backed, backTurn}
 use Rattle.paths.proofs.subframe.moved_back.Statement.{statement}
 use Rattle.paths.proofs.subframe.moved_back.Tie as tie

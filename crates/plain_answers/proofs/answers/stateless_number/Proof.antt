@@ -3,8 +3,8 @@ use mathlib.Core.Path.{_≡_, ap, _∙_}
 use borrow.Author.Needs.{needs}
 use denote.Ref.{now}
 use lib.IntN.{pos}
-use Rattle.refusals.specs.declared.answer.Answer.{Answer}
-use Rattle.refusals.specs.Code.{codeOf}
+use Rattle.refusal_rules.specs.declared.answer.Answer.{Answer}
+use Rattle.refusal_rules.specs.Code.{codeOf}
 use Rattle.plain_answers.proofs.Refused.{stateless-is}
 use Rattle.plain_answers.proofs.answers.stateless_number.Statement.{statement}
 use Rattle.plain_answers.proofs.answers.stateless_number.Tie as tie

@@ -5,8 +5,8 @@ use borrow.Author.Tests.{ne-eqb}
 use native.Mathlib.Omega.{arith}
 use mir.Syntax.{w32}
 use Rattle.fixed.proofs.Fit.{back}
-use Rattle.refusals.specs.Code.{codeOf}
-use Rattle.refusals.proofs.Matched.{tag-code, code-refused}
+use Rattle.refusal_rules.specs.Code.{codeOf}
+use Rattle.refusal_rules.proofs.Matched.{tag-code, code-refused}
 use Rattle.plain_laid.specs.Laid.{laid}
 use Rattle.plain_laid.proofs.laying.lay.Statement.{statement}
 use Rattle.plain_laid.proofs.laying.lay.Tie as tie

@@ -7,7 +7,7 @@ use lib.Signed.{mag}
 use mir.Syntax.{w32}
 use mir.Val.{toZ, ofZ}
 use Rattle.fixed.proofs.Fit.{back}
-use Rattle.path.specs.Data.{word}
+use Rattle.fixed.specs.Row.{word}
 use Rattle.plain_rows.specs.Layout.{stateOf}
 use Rattle.plain_rows.proofs.layout.state_of.Statement.{statement}
 use Rattle.plain_rows.proofs.layout.state_of.Tie as tie

@@ -6,7 +6,7 @@ use lib.ListN.{length}
 use Rattle.fixed.proofs.Fit.{read}
 use Rattle.silk.proofs.Told.{settings}
 use Rattle.limits.specs.Tests.{lengthsRefused, ordersRefused, pathsRefused, kindsRefused, gainsRefused, lagsRefused}
-use Rattle.refusals.specs.Table.{answerOf, table, rowsRefused}
+use Rattle.refusal_rules.specs.Table.{answerOf, table, rowsRefused}
 use Rattle.refusals.proofs.check.check.Statement.{statement}
 use Rattle.refusals.proofs.check.check.Tie as tie
 

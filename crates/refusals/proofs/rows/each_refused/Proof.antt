@@ -1,6 +1,6 @@
 -- `refusals::rows::each_refused` meets its contract. Assumes nothing.
 use borrow.Author.Tests.{ne-eqb, eq-eqb}
-use Rattle.refusals.specs.Table.{eachRefused}
+use Rattle.refusal_rules.specs.Table.{eachRefused}
 use Rattle.refusals.proofs.rows.each_refused.Statement.{statement}
 use Rattle.refusals.proofs.rows.each_refused.Tie as tie
 

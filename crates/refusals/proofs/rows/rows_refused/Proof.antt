@@ -6,7 +6,7 @@ use native.Mathlib.Nat.{mul-le-mul}
 use borrow.Author.Needs.{needs}
 use borrow.Author.Tests.{ne-eqb, eq-eqb}
 use Rattle.fixed.proofs.Fit.{read}
-use Rattle.refusals.specs.Table.{rowsRefused}
+use Rattle.refusal_rules.specs.Table.{rowsRefused}
 use Rattle.limits.specs.Count.{natZ}
 use Rattle.limits.proofs.Laws.{nat-small}
 use Rattle.refusals.proofs.rows.rows_refused.Statement.{statement}

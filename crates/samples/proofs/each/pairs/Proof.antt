@@ -11,7 +11,8 @@ use Rattle.fixed.proofs.Fit.{back}
 use Rattle.fixed.specs.Iter.{iter}
 use Rattle.fixed.proofs.Iters.{iter-more}
 use Rattle.path.specs.declared.structs.Candidate.{Candidate}
-use Rattle.path.specs.Data.{word, noCandidate}
+use Rattle.fixed.specs.Row.{word}
+use Rattle.path.specs.Data.{noCandidate}
 use Rattle.steps.specs.Each.{pairs, pairTurn}
 use Rattle.samples.proofs.each.pairs.Statement.{statement}
 use Rattle.samples.proofs.each.pairs.Tie as tie

@@ -6,7 +6,7 @@ use denote.Ref.{now}
 use Prim.Native.Nat.{_+_}
 use mir.Syntax.{w16}
 use Rattle.fixed.proofs.Fit.{got32, back, read}
-use Rattle.path.specs.Data.{word}
+use Rattle.fixed.specs.Row.{word}
 use Rattle.path.proofs.Told.{fix}
 use Rattle.shared.proofs.common.common.Statement.{statement}
 use Rattle.shared.proofs.common.common.Tie as tie

@@ -8,7 +8,7 @@ use lib.ListN.{getD}
 use lib.IntN.{pos}
 use mir.Syntax.{w32}
 use Rattle.fixed.proofs.Fit.{back, got32}
-use Rattle.gain_terms.specs.Gains.{«inv_gain_Q31»}
+use Rattle.word_steps.specs.Gains.{«inv_gain_Q31»}
 use Rattle.steps.proofs.Sound.{since-few, subframes-small}
 use Rattle.steps.proofs.Told.{given}
 use Rattle.steps.specs.Call.{fixBy, lagBy, sinceBy}

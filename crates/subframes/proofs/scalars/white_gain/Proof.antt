@@ -3,7 +3,7 @@ use mathlib.Core.Path.{_≡_, _∙_}
 use borrow.Author.Tests.{eq-eqb, ne-eqb}
 use borrow.Author.Needs.{needs}
 use Rattle.fixed.proofs.Fit.{read, got32}
-use Rattle.gain_terms.specs.Gains.{«inv_gain_Q31»}
+use Rattle.word_steps.specs.Gains.{«inv_gain_Q31»}
 use Rattle.steps.proofs.Told.{given}
 use Rattle.steps.specs.Call.{whiteBy}
 use Rattle.subframes.proofs.scalars.white_gain.Statement.{statement}

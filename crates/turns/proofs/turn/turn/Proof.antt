@@ -7,7 +7,8 @@ use denote.Ref.{now}
 use mir.Syntax.{w32}
 use Rattle.fixed.proofs.Fit.{back, got32}
 use Rattle.path.specs.declared.structs.Common.{Common}
-use Rattle.path.specs.Data.{word, Running, running, rows}
+use Rattle.fixed.specs.Row.{word}
+use Rattle.path.specs.Data.{Running, running, rows}
 use Rattle.steps.specs.Among.{keepsFirst}
 use Rattle.steps.specs.Settled.{Settled}
 use Rattle.path.proofs.Told.{sampled, fix, halves}

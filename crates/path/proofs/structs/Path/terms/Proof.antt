@@ -11,7 +11,8 @@ use Rattle.fixed.proofs.Fit.{got32, read, back}
 use Rattle.fixed.specs.Shift.{shl32}
 use Rattle.shaping.specs.Taps.{shortPrediction}
 use Rattle.path.specs.Path.{termsOf}
-use Rattle.path.specs.Data.{word, ringShape}
+use Rattle.fixed.specs.Row.{word}
+use Rattle.path.specs.Data.{ringShape}
 use Rattle.path.proofs.Told.{Back, path, fix, common}
 use Rattle.path.proofs.structs.Path.terms.Statement.{statement}
 use Rattle.path.proofs.structs.Path.terms.Tie as tie

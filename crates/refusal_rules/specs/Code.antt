@@ -1,8 +1,8 @@
 -- Document 01's number of each answer: "Which number comes back". A contract that speaks of an answer gives its number by this.
 -- Assumes nothing.
 use Prim.Native.Nat.{ℕ}
-use Rattle.refusals.specs.declared.answer.Answer.{Answer}
-use Rattle.refusals.specs.declared.answer.Answer.the-variants.{Accepted, Lengths, Orders, Paths, Kinds, Rows, Gains, Lags}
+use Rattle.refusal_rules.specs.declared.answer.Answer.{Answer}
+use Rattle.refusal_rules.specs.declared.answer.Answer.the-variants.{Accepted, Lengths, Orders, Paths, Kinds, Rows, Gains, Lags}
 
 -- the number of an answer
 abbrev pub codeOf : Answer → ℕ

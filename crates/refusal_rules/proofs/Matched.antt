@@ -8,14 +8,14 @@ use types.Run.{OneOf}
 use lib.IntN.{ℤ}
 use denote.Enum.Declared.{tagOf}
 use Rattle.silk.specs.declared.structs.Settings.{Settings}
-use Rattle.refusals.specs.declared.answer.Answer.{Answer}
-use Rattle.refusals.specs.declared.answer.Answer.the-variants.{Accepted, Lengths, Orders, Paths, Kinds, Rows, Gains, Lags}
-use Rattle.refusals.specs.declared.answer.Sizes.{Sizes}
-use Rattle.refusals.specs.Code.{codeOf}
-use Rattle.refusals.specs.Good.{Good}
-use Rattle.refusals.specs.Table.{answerOf}
-use Rattle.refusals.proofs.answer.Answer as answer-type
-use Rattle.refusals.proofs.Accept.{good}
+use Rattle.refusal_rules.specs.declared.answer.Answer.{Answer}
+use Rattle.refusal_rules.specs.declared.answer.Answer.the-variants.{Accepted, Lengths, Orders, Paths, Kinds, Rows, Gains, Lags}
+use Rattle.refusal_rules.specs.declared.answer.Sizes.{Sizes}
+use Rattle.refusal_rules.specs.Code.{codeOf}
+use Rattle.refusal_rules.specs.Good.{Good}
+use Rattle.refusal_rules.specs.Table.{answerOf}
+use Rattle.refusal_rules.proofs.answer.Answer as answer-type
+use Rattle.refusal_rules.proofs.Accept.{good}
 
 -- its tag is its number
 pub tag-code : (a : Answer) → tagOf answer-type.the-type a ≡ codeOf a

@@ -11,7 +11,7 @@ use lib.IntN.{ℤ, pos}
 use lib.Signed.{_≤ℤ_}
 use Rattle.silk.specs.declared.structs.Settings.{Settings}
 use Rattle.limits.specs.Count.{natZ, sameZ}
-use Rattle.refusals.specs.declared.answer.Sizes.{Sizes}
+use Rattle.refusal_rules.specs.declared.answer.Sizes.{Sizes}
 
 -- z is a count from lo to hi
 pub record Among (lo hi : ℕ) (z : ℤ) : Type 0 where

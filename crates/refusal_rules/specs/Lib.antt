@@ -1,3 +1,3 @@
-pub mod Table
 pub mod Code
 pub mod Good
+pub mod Table

@@ -6,7 +6,7 @@ use Rattle.fixed.specs.Wrap.{wrap16}
 use Rattle.fixed.specs.Shift.{shl32, rround}
 use Rattle.products.specs.Product.{smulwb}
 use Rattle.fixed.specs.Iter.{either}
-use Rattle.inverses.specs.Inlines.{«silk_INVERSE32_varQ», «silk_DIV32_varQ»}
+use Rattle.word_steps.specs.Inlines.{«silk_INVERSE32_varQ», «silk_DIV32_varQ»}
 
 -- if gain > 1 { gain } else { 1 }
 unfoldable pub atLeastOne : ℤ → ℤ

@@ -4,7 +4,7 @@ use mathlib.Core.List.{List}
 use lib.ListN.{set}
 use lib.IntN.{ℤ}
 use Rattle.fixed.specs.Iter.{iter}
-use Rattle.path.specs.Data.{word}
+use Rattle.fixed.specs.Row.{word}
 
 -- m words of a row move down by s
 abbrev pub downTurn : ℕ → ℕ → List ℤ → List ℤ

@@ -10,10 +10,10 @@ use mathlib.Core.List.{List}
 use lib.IntN.{ℤ}
 use Rattle.fixed.specs.Iter.{either}
 use Rattle.silk.specs.declared.structs.Settings.{Settings}
-use Rattle.refusals.specs.declared.answer.Sizes.{Sizes}
-use Rattle.refusals.specs.declared.answer.Answer.the-variants.{Accepted, Lengths, Orders, Paths, Kinds, Rows, Gains, Lags}
-use Rattle.refusals.specs.Code.{codeOf}
-use Rattle.refusals.specs.Table.{applies, answerOf}
+use Rattle.refusal_rules.specs.declared.answer.Sizes.{Sizes}
+use Rattle.refusal_rules.specs.declared.answer.Answer.the-variants.{Accepted, Lengths, Orders, Paths, Kinds, Rows, Gains, Lags}
+use Rattle.refusal_rules.specs.Code.{codeOf}
+use Rattle.refusal_rules.specs.Table.{applies, answerOf}
 
 -- the lowest of the m numbers from k on of which p holds, else 0
 abbrev lowest : (ℕ → Bool) → ℕ → ℕ → ℕ

@@ -6,7 +6,7 @@ use mathlib.Core.Path.{_≡_, ap}
 use mathlib.Core.Logic.{inl, inr}
 use lib.IntN.{ℤ}
 use Rattle.limits.specs.Count.{natZ}
-use Rattle.refusals.specs.Good.{GoodLength, GoodCount, GoodOrder, GoodLag, QuietLag}
+use Rattle.refusal_rules.specs.Good.{GoodLength, GoodCount, GoodOrder, GoodLag, QuietLag}
 
 -- the ends of the lags are whole numbers: 2L/5 is 8 times L/20, and 18L/5 is 72 times L/20
 pub ends-whole : {l : ℤ} → GoodLength l → (2 * natZ l ≡ 5 * (8 * (natZ l / 20))) × (18 * natZ l ≡ 5 * (72 * (natZ l / 20)))

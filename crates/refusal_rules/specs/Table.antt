@@ -12,9 +12,9 @@ use Rattle.fixed.specs.Iter.{either}
 use Rattle.silk.specs.declared.structs.Settings.{Settings}
 use Rattle.limits.specs.Count.{natZ}
 use Rattle.limits.specs.Tests.{lengthsRefused, ordersRefused, pathsRefused, kindsRefused, gainsRefused, lagsRefused}
-use Rattle.refusals.specs.declared.answer.Answer.{Answer}
-use Rattle.refusals.specs.declared.answer.Answer.the-variants.{Accepted, Lengths, Orders, Paths, Kinds, Rows, Gains, Lags}
-use Rattle.refusals.specs.declared.answer.Sizes.{Sizes}
+use Rattle.refusal_rules.specs.declared.answer.Answer.{Answer}
+use Rattle.refusal_rules.specs.declared.answer.Answer.the-variants.{Accepted, Lengths, Orders, Paths, Kinds, Rows, Gains, Lags}
+use Rattle.refusal_rules.specs.declared.answer.Sizes.{Sizes}
 
 -- two lengths differ
 abbrev pub another : ℕ → ℕ → Bool

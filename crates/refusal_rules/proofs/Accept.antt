@@ -14,15 +14,15 @@ use borrow.Author.Tests.{eqb-true, eqb-false, not-false, ltb-false}
 use Rattle.fixed.specs.Iter.{either}
 use Rattle.fixed.proofs.Lin.{lt-false, le-of-lin, neg-lin}
 use Rattle.silk.specs.declared.structs.Settings.{Settings}
-use Rattle.refusals.specs.declared.answer.Answer.the-variants.{Accepted}
-use Rattle.refusals.specs.declared.answer.Sizes.{Sizes}
-use Rattle.refusals.specs.Code.{codeOf}
+use Rattle.refusal_rules.specs.declared.answer.Answer.the-variants.{Accepted}
+use Rattle.refusal_rules.specs.declared.answer.Sizes.{Sizes}
+use Rattle.refusal_rules.specs.Code.{codeOf}
 use Rattle.limits.specs.Count.{natZ, sameZ}
-use Rattle.refusals.specs.Good.{Among, GoodLength, GoodCount, GoodOrder, GoodShaping, GoodLag, QuietLag, GoodSettings, GoodRows, GoodGains, GoodLags, Good}
+use Rattle.refusal_rules.specs.Good.{Among, GoodLength, GoodCount, GoodOrder, GoodShaping, GoodLag, QuietLag, GoodSettings, GoodRows, GoodGains, GoodLags, Good}
 use Rattle.limits.specs.Tests.{outside, lengthAllowed, countAllowed, orderFor, oddZ, some, lengthsRefused, ordersRefused, pathsRefused, kindsRefused, gainRefused, someGain, gainsRefused, lagRefused, quietLagRefused, someLag, lastOf, lagsRefused}
-use Rattle.refusals.specs.Table.{another, eachRefused, rowsRefused, table, answerOf}
+use Rattle.refusal_rules.specs.Table.{another, eachRefused, rowsRefused, table, answerOf}
 use Rattle.limits.proofs.Laws.{same-true, or-false, or-elim, some-false}
-use Rattle.refusals.proofs.Exactly.{exactly-accepted}
+use Rattle.refusal_rules.proofs.Exactly.{exactly-accepted}
 
 -- ---- one setting
 -- a number that is not outside a range

@@ -1,0 +1,7 @@
+-- Exactly: document 01's table, word for word. Accept: an accepted call is good. Room: what the frame takes of that. Matched: a match on an
+-- answer. Examples: calls, by computation.
+pub mod Accept
+pub mod Exactly
+pub mod Examples
+pub mod Matched
+pub mod Room
