@@ -8,14 +8,6 @@ pub struct Sum {
     pub low: u32,
 }
 
-// Where a digest starts.
-pub fn start() -> Sum {
-    Sum {
-        high: 3421674724,
-        low: 2216829733,
-    }
-}
-
 // What the lower half times 435 carries into the upper half.
 fn carry(low: u32) -> u32 {
     ((low as u64) * 435 / 4294967296) as u32
@@ -32,7 +24,7 @@ fn byte(sum: Sum, b: u32) -> Sum {
 }
 
 // One word.
-pub fn word(sum: Sum, x: i32) -> Sum {
+fn word(sum: Sum, x: i32) -> Sum {
     let bits = wrap::bits32(x);
     let a = byte(sum, bits & 255);
     let b = byte(a, bits >> 8 & 255);
@@ -51,9 +43,12 @@ pub fn words(sum: Sum, row: &[i32], n: usize) -> Sum {
     h
 }
 
-// The first n words of a row of samples.
-pub fn halves(sum: Sum, row: &[i16], n: usize) -> Sum {
-    let mut h = sum;
+// A digest starts with the first n words of a row of samples.
+pub fn halves(row: &[i16], n: usize) -> Sum {
+    let mut h = Sum {
+        high: 3421674724,
+        low: 2216829733,
+    };
     for i in 0..n {
         if i < row.len() {
             h = word(h, wrap::wide16(row[i]));

@@ -5,14 +5,22 @@
 // The file `stdout` was not made by this program: the Rust printed it. To repeat that: tools/oracle, then
 // target/oracle/oracle stream --digest < crates/nsq_replay/stdin.
 mod digest;
+mod input;
 mod print;
 mod rows;
 mod state;
 mod stream;
-mod words;
 
+use crate::state::Held;
+use silk::structs::NsqState;
+
+// All calls of the list, at most 256.
 fn main() {
-    let mut space = [0u8; 327680];
-    let n = io::read_full(0, &mut space);
-    stream::replay(&space[..n]);
+    let mut held = Held {
+        state: NsqState::fresh(),
+        rand_seed: 0,
+    };
+    for k in 0usize..256 {
+        held = stream::next(held);
+    }
 }

@@ -1,42 +1,62 @@
 // A state that a call is given: fresh, the one before, or its words in the list.
-use crate::words;
+use crate::input;
 use silk::structs::NsqState;
 
-// A state, the seed that the Rust's state holds beside it, and the place after its words.
+// A state, and the seed that the Rust's state holds beside it.
 pub struct Held {
     pub state: NsqState,
     pub rand_seed: i32,
-    pub at: usize,
 }
 
-// The 1408 words of a state, from a place on.
-pub fn given(text: &[u8], from: usize) -> Held {
+// The 1408 words of a state.
+fn given() -> Held {
     let mut xq = [0i16; 640];
+    input::fill16(&mut xq, 640);
     let mut shp = [0i32; 640];
+    input::fill32(&mut shp, 640);
     let mut lpc = [0i32; 96];
+    input::fill32(&mut lpc, 96);
     let mut ar2 = [0i32; 24];
-    let mut rest = [0i32; 8];
-    let a = words::fill16(text, from, &mut xq, 640);
-    let b = words::fill32(text, a, &mut shp, 640);
-    let c = words::fill32(text, b, &mut lpc, 96);
-    let d = words::fill32(text, c, &mut ar2, 24);
-    let at = words::fill32(text, d, &mut rest, 8);
+    input::fill32(&mut ar2, 24);
+    let lf = input::number(input::byte());
+    let diff = input::number(input::byte());
+    let lag = input::number(input::byte());
+    let buf = input::number(input::byte());
+    let shp_buf = input::number(input::byte());
+    let seed = input::number(input::byte());
+    let gain = input::number(input::byte());
     let state = NsqState {
         xq: xq,
         sLTP_shp_Q14: shp,
         sLPC_Q14: lpc,
         sAR2_Q14: ar2,
-        sLF_AR_shp_Q14: rest[0],
-        sDiff_shp_Q14: rest[1],
-        lagPrev: rest[2],
-        sLTP_buf_idx: rest[3],
-        sLTP_shp_buf_idx: rest[4],
-        prev_gain_Q16: rest[6],
-        rewhite_flag: rest[7],
+        sLF_AR_shp_Q14: lf,
+        sDiff_shp_Q14: diff,
+        lagPrev: lag,
+        sLTP_buf_idx: buf,
+        sLTP_shp_buf_idx: shp_buf,
+        prev_gain_Q16: gain,
+        rewhite_flag: input::number(input::byte()),
     };
     Held {
         state: state,
-        rand_seed: rest[5],
-        at: at,
+        rand_seed: seed,
+    }
+}
+
+// The state that a call starts from: `state fresh`, `state prev` or `state given` with its words.
+pub fn chosen(before: Held) -> Held {
+    input::number(input::byte());
+    let mode = input::byte();
+    input::number(mode);
+    if mode == 103 {
+        return given();
+    }
+    if mode == 112 {
+        return before;
+    }
+    Held {
+        state: NsqState::fresh(),
+        rand_seed: 0,
     }
 }

@@ -1,14 +1,15 @@
 -- `nsq_replay::print::pulses` meets its contract. Assumes nothing.
 use Prim.Native.Nat.{_≤_, _<_, _-_}
+use lib.ListN.{length}
 use borrow.Author.Needs.{needs}
 use Rattle.nsq_replay.proofs.print.pulses.Statement.{statement}
 use Rattle.nsq_replay.proofs.print.pulses.Tie as tie
 
 abbrev Inv-loop : tie.InvT-loop
-Inv-loop row n i₀ i = i ≤ n
+Inv-loop row i₀ i = i ≤ length row
 
 abbrev μ-loop : tie.MeasureT-loop
-μ-loop row n i₀ i = n - i
+μ-loop row i₀ i = length row - i
 
 loop-holds : tie.Need-loop-holds Inv-loop μ-loop
 loop-holds c = search needs
@@ -21,9 +22,6 @@ wide8-requires c κs = search needs
 
 signed-requires : tie.Need-signed-requires Inv-loop μ-loop
 signed-requires c κs = search needs
-
-gap-requires : tie.Need-gap-requires Inv-loop μ-loop
-gap-requires c κs = search needs
 
 add-i : tie.Need-add-i Inv-loop μ-loop
 add-i c = search needs
@@ -47,7 +45,6 @@ pulses-spec =
     shared-slice-copy-out-wide8
     wide8-requires
     signed-requires
-    gap-requires
     add-i
     loop-less
     loop-again

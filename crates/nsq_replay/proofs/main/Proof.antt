@@ -1,14 +1,14 @@
--- `nsq_replay::stream::replay` meets its contract. Assumes nothing.
+-- `nsq_replay::main` meets its contract. Assumes nothing.
 use Prim.Native.Nat.{_≤_, _<_, _-_}
 use borrow.Author.Needs.{needs}
-use Rattle.nsq_replay.proofs.stream.replay.Statement.{statement}
-use Rattle.nsq_replay.proofs.stream.replay.Tie as tie
+use Rattle.nsq_replay.proofs.main.Statement.{statement}
+use Rattle.nsq_replay.proofs.main.Tie as tie
 
 abbrev Inv-loop : tie.InvT-loop
-Inv-loop text held₀ k₀ held k = k ≤ 256
+Inv-loop held₀ k₀ held k = k ≤ 256
 
 abbrev μ-loop : tie.MeasureT-loop
-μ-loop text held₀ k₀ held k = 256 - k
+μ-loop held₀ k₀ held k = 256 - k
 
 fresh-requires : tie.Need-fresh-requires Inv-loop μ-loop
 fresh-requires c κs = search needs
@@ -31,8 +31,8 @@ loop-again c = search needs
 returns : tie.Need-returns Inv-loop μ-loop
 returns c = search needs
 
-pub replay-spec : {M : Type 1} → statement M
-replay-spec =
+pub main-spec : {M : Type 1} → statement M
+main-spec =
     tie.close
     (tie.spec
     Inv-loop

@@ -1,28 +1,28 @@
--- `nsq_replay::words::fill16` meets its contract. Assumes nothing.
+-- `nsq_replay::input::fill32` meets its contract. Assumes nothing.
 use Prim.Native.Nat.{_≤_, _<_, _-_}
 use lib.ListN.{length}
 use mathlib.Core.Path.{_≡_}
 use borrow.Author.Needs.{needs}
-use Rattle.nsq_replay.proofs.words.fill16.Statement.{statement}
-use Rattle.nsq_replay.proofs.words.fill16.Tie as tie
+use Rattle.nsq_replay.proofs.input.fill32.Statement.{statement}
+use Rattle.nsq_replay.proofs.input.fill32.Tie as tie
 
 abbrev Inv-loop : tie.InvT-loop
-Inv-loop text from row₀ n at₀ i₀ row at i = (i ≤ n) × (length row ≡ length row₀)
+Inv-loop row₀ n i₀ row i = (i ≤ n) × (length row ≡ length row₀)
 
 abbrev μ-loop : tie.MeasureT-loop
-μ-loop text from row₀ n at₀ i₀ row at i = n - i
+μ-loop row₀ n i₀ row i = n - i
 
 loop-holds : tie.Need-loop-holds Inv-loop μ-loop
 loop-holds c = search needs
 
-read-requires : tie.Need-read-requires Inv-loop μ-loop
-read-requires c κs = search needs
+byte-requires : tie.Need-byte-requires Inv-loop μ-loop
+byte-requires c κs = search needs
 
-low16-requires : tie.Need-low16-requires Inv-loop μ-loop
-low16-requires c κs = search needs
+number-requires : tie.Need-number-requires Inv-loop μ-loop
+number-requires c κs = search needs
 
-mul-t10 : tie.Need-mul-t10 Inv-loop μ-loop
-mul-t10 c = search needs
+mul-t7 : tie.Need-mul-t7 Inv-loop μ-loop
+mul-t7 c = search needs
 
 slice-set-from-row : tie.Need-slice-set-from-row Inv-loop μ-loop
 slice-set-from-row c = search needs
@@ -42,16 +42,16 @@ same-length c = search needs
 returns : tie.Need-returns Inv-loop μ-loop
 returns c = search needs
 
-pub fill16-spec : {M : Type 1} → statement M
-fill16-spec =
+pub fill32-spec : {M : Type 1} → statement M
+fill32-spec =
     tie.close
     (tie.spec
     Inv-loop
     μ-loop
     loop-holds
-    read-requires
-    low16-requires
-    mul-t10
+    byte-requires
+    number-requires
+    mul-t7
     slice-set-from-row
     add-i
     loop-less

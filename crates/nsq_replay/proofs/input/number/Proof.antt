@@ -1,0 +1,74 @@
+-- `nsq_replay::input::number` meets its contract. Assumes nothing.
+use Prim.Native.Nat.{_≤_, _<_, _-_}
+use borrow.Author.Needs.{needs}
+use Rattle.nsq_replay.proofs.input.number.Statement.{statement}
+use Rattle.nsq_replay.proofs.input.number.Tie as tie
+
+abbrev Inv-loop : tie.InvT-loop
+Inv-loop first v₀ i₀ v i = (i ≤ 12) × (v < 1099511627776)
+
+abbrev μ-loop : tie.MeasureT-loop
+μ-loop first v₀ i₀ v i = 12 - i
+
+grown-requires : tie.Need-grown-requires Inv-loop μ-loop
+grown-requires c κs = search needs
+
+loop-holds : tie.Need-loop-holds Inv-loop μ-loop
+loop-holds c = search needs
+
+byte-requires : tie.Need-byte-requires Inv-loop μ-loop
+byte-requires c κs = search needs
+
+grown-requires-2 : tie.Need-grown-requires-2 Inv-loop μ-loop
+grown-requires-2 c κs = search needs
+
+add-i : tie.Need-add-i Inv-loop μ-loop
+add-i c = search needs
+
+loop-less : tie.Need-loop-less Inv-loop μ-loop
+loop-less c = search needs
+
+loop-again : tie.Need-loop-again Inv-loop μ-loop
+loop-again c = search needs
+
+cast-low32 : tie.Need-cast-low32 Inv-loop μ-loop
+cast-low32 c = search needs
+
+low32-requires : tie.Need-low32-requires Inv-loop μ-loop
+low32-requires c κs = search needs
+
+neg32-requires : tie.Need-neg32-requires Inv-loop μ-loop
+neg32-requires c κs = search needs
+
+returns : tie.Need-returns Inv-loop μ-loop
+returns c = search needs
+
+cast-low32-2 : tie.Need-cast-low32-2 Inv-loop μ-loop
+cast-low32-2 c = search needs
+
+low32-requires-2 : tie.Need-low32-requires-2 Inv-loop μ-loop
+low32-requires-2 c κs = search needs
+
+returns-2 : tie.Need-returns-2 Inv-loop μ-loop
+returns-2 c = search needs
+
+pub number-spec : {M : Type 1} → statement M
+number-spec =
+    tie.close
+    (tie.spec
+    Inv-loop
+    μ-loop
+    grown-requires
+    loop-holds
+    byte-requires
+    grown-requires-2
+    add-i
+    loop-less
+    loop-again
+    cast-low32
+    low32-requires
+    neg32-requires
+    returns
+    cast-low32-2
+    low32-requires-2
+    returns-2)
