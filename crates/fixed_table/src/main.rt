@@ -108,30 +108,25 @@ const WIDE: [i64; 16] = [
     9223372036854775807,
 ];
 
+// The functions by number: those below 14 take one word, the others two; some of the latter add their product to a constant.
 const UNARY: usize = 14;
 
-const BINARY: usize = 13;
+const FUNCTIONS: usize = 32;
 
-const TERNARY: usize = 5;
-
-fn name1(op: usize) {
-    match op {
-        0 => io::write_all(1, b"low16\n"),
-        1 => io::write_all(1, b"high16\n"),
-        2 => io::write_all(1, b"low8\n"),
-        3 => io::write_all(1, b"neg32\n"),
-        4 => io::write_all(1, b"rshift_round4\n"),
-        5 => io::write_all(1, b"rshift_round5\n"),
-        6 => io::write_all(1, b"rshift_round8\n"),
-        7 => io::write_all(1, b"rshift_round10\n"),
-        8 => io::write_all(1, b"rshift_round12\n"),
-        9 => io::write_all(1, b"rshift_round14\n"),
-        10 => io::write_all(1, b"sat16\n"),
-        11 => io::write_all(1, b"abs32\n"),
-        12 => io::write_all(1, b"rand\n"),
-        _ => io::write_all(1, b"clamp32 to -31744 .. 30720\n"),
+// The name of function `op`: its line of the text.
+fn name(op: usize) {
+    let names =
+        b"low16\nhigh16\nlow8\nneg32\nrshift_round4\nrshift_round5\nrshift_round8\nrshift_round10\nrshift_round12\nrshift_round14\nsat16\nabs32\nrand\nclamp32 to -31744 .. 30720\nadd32\nsub32\nmul32\nmul16\nsmulbb\nsmulwb\nsmulwt\nsmulww\nsmmul\nor32\nmin32\nshl32\nshr32\nsmlabb to 2147483647\nsmlawb to -2147483648\nsmlawt to 2147483647\nsmlaww to -2147483648\nsmlawb to -1\n";
+    let mut before = op;
+    for i in 0..335 {
+        let letter = [names[i]];
+        if before == 0 {
+            io::write_all(1, &letter);
+        }
+        if names[i] == 10 {
+            before = if before == 0 { 32 } else { before - 1 };
+        }
     }
-    ;
 }
 
 fn apply1(op: usize, a: i32) -> i32 {
@@ -153,60 +148,25 @@ fn apply1(op: usize, a: i32) -> i32 {
     }
 }
 
-fn name2(op: usize) {
-    match op {
-        0 => io::write_all(1, b"add32\n"),
-        1 => io::write_all(1, b"sub32\n"),
-        2 => io::write_all(1, b"mul32\n"),
-        3 => io::write_all(1, b"mul16\n"),
-        4 => io::write_all(1, b"smulbb\n"),
-        5 => io::write_all(1, b"smulwb\n"),
-        6 => io::write_all(1, b"smulwt\n"),
-        7 => io::write_all(1, b"smulww\n"),
-        8 => io::write_all(1, b"smmul\n"),
-        9 => io::write_all(1, b"or32\n"),
-        10 => io::write_all(1, b"min32\n"),
-        11 => io::write_all(1, b"shl32\n"),
-        _ => io::write_all(1, b"shr32\n"),
-    }
-    ;
-}
-
 fn apply2(op: usize, a: i32, b: i32) -> i32 {
     match op {
-        0 => wrap::add32(a, b),
-        1 => wrap::sub32(a, b),
-        2 => wrap::mul32(a, b),
-        3 => product::mul16(wrap::low16(a), wrap::low16(b)),
-        4 => product::smulbb(a, b),
-        5 => product::smulwb(a, wrap::low16(b)),
-        6 => product::smulwt(a, b),
-        7 => product::smulww(a, b),
-        8 => product::smmul(a, b),
-        9 => shift::or32(a, b),
-        10 => range::min32(a, b),
-        11 => shift::shl32(a, wrap::bits32(b)),
-        _ => shift::shr32(a, wrap::bits32(b)),
-    }
-}
-
-fn name3(op: usize) {
-    match op {
-        0 => io::write_all(1, b"smlabb to 2147483647\n"),
-        1 => io::write_all(1, b"smlawb to -2147483648\n"),
-        2 => io::write_all(1, b"smlawt to 2147483647\n"),
-        3 => io::write_all(1, b"smlaww to -2147483648\n"),
-        _ => io::write_all(1, b"smlawb to -1\n"),
-    }
-    ;
-}
-
-fn apply3(op: usize, a: i32, b: i32) -> i32 {
-    match op {
-        0 => product::smlabb(2147483647, a, b),
-        1 => product::smlawb(-2147483648, a, wrap::low16(b)),
-        2 => product::smlawt(2147483647, a, b),
-        3 => product::smlaww(-2147483648, a, b),
+        14 => wrap::add32(a, b),
+        15 => wrap::sub32(a, b),
+        16 => wrap::mul32(a, b),
+        17 => product::mul16(wrap::low16(a), wrap::low16(b)),
+        18 => product::smulbb(a, b),
+        19 => product::smulwb(a, wrap::low16(b)),
+        20 => product::smulwt(a, b),
+        21 => product::smulww(a, b),
+        22 => product::smmul(a, b),
+        23 => shift::or32(a, b),
+        24 => range::min32(a, b),
+        25 => shift::shl32(a, wrap::bits32(b)),
+        26 => shift::shr32(a, wrap::bits32(b)),
+        27 => product::smlabb(2147483647, a, b),
+        28 => product::smlawb(-2147483648, a, wrap::low16(b)),
+        29 => product::smlawt(2147483647, a, b),
+        30 => product::smlaww(-2147483648, a, b),
         _ => product::smlawb(-1, a, wrap::low16(b)),
     }
 }
@@ -230,7 +190,7 @@ fn end_line() {
 }
 
 fn row1(op: usize) {
-    name1(op);
+    name(op);
     for i in 0..24 {
         let a = WORDS[i];
         print(apply1(op, a));
@@ -250,27 +210,11 @@ fn row2(op: usize, a: i32) {
     end_line();
 }
 
-fn row3(op: usize, a: i32) {
-    for j in 0..24 {
-        let b = WORDS[j];
-        print(apply3(op, a, b));
-    }
-    end_line();
-}
-
 fn table2(op: usize) {
-    name2(op);
+    name(op);
     for i in 0..24 {
         let a = WORDS[i];
         row2(op, a);
-    }
-}
-
-fn table3(op: usize) {
-    name3(op);
-    for i in 0..24 {
-        let a = WORDS[i];
-        row3(op, a);
     }
 }
 
@@ -322,11 +266,8 @@ fn main() {
     for op in 0..UNARY {
         row1(op);
     }
-    for op in 0..BINARY {
+    for op in UNARY..FUNCTIONS {
         table2(op);
-    }
-    for op in 0..TERNARY {
-        table3(op);
     }
     row_low32();
     row_bits32();

@@ -1,3 +1,2 @@
--- Befores: the steps before a subframe's samples, put together. Unique: each contract leaves one outcome.
-pub mod Befores
+-- Unique: each contract leaves one outcome.
 pub mod Unique

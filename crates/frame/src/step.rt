@@ -9,7 +9,7 @@ ghost use Rattle.steps.specs.Among.{keepsFirst};
 ghost use Rattle.places.specs.Places.{Fits};
 ghost use Rattle.steps.specs.Call.{Room};
 ghost use Rattle.steps.specs.Frame.{framedOf, step as stepZ};
-use crate::before;
+use befores::before;
 use path::structs::Fix;
 use path::structs::Halves;
 use path::structs::Work;

@@ -40,22 +40,19 @@ fn replay(function: usize) {
     io::write_all(1, b"\n");
 }
 
+// The function's name: its line of the text, without the end of the line.
 fn name(function: usize) {
-    match function {
-        0 => io::write_all(1, b"short_prediction"),
-        1 => io::write_all(1, b"ltp_prediction"),
-        2 => io::write_all(1, b"warped_filter, sum"),
-        3 => io::write_all(1, b"warped_filter, words"),
-        4 => io::write_all(1, b"n_AR"),
-        5 => io::write_all(1, b"n_LF"),
-        6 => io::write_all(1, b"harm_shape_packed"),
-        7 => io::write_all(1, b"n_LTP"),
-        8 => io::write_all(1, b"residual"),
-        9 => io::write_all(1, b"pulse_of"),
-        10 => io::write_all(1, b"xq_out8"),
-        _ => io::write_all(1, b"xq_out14"),
+    let names =
+        b"short_prediction\nltp_prediction\nwarped_filter, sum\nwarped_filter, words\nn_AR\nn_LF\nharm_shape_packed\nn_LTP\nresidual\npulse_of\nxq_out8\nxq_out14\n";
+    let mut before = function;
+    for i in 0..141 {
+        let letter = [names[i]];
+        if names[i] == 10 {
+            before = if before == 0 { FUNCTIONS } else { before - 1 };
+        } else if before == 0 {
+            io::write_all(1, &letter);
+        }
     }
-    ;
 }
 
 // A space and a number. The bits of |x| are |x| also for the least number, which has no negation.

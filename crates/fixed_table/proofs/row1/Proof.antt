@@ -16,8 +16,8 @@ Inv-loop2 op i₀ i = i ≤ 48
 abbrev μ-loop2 : tie.MeasureT-loop2
 μ-loop2 op i₀ i = 48 - i
 
-name1-requires : tie.Need-name1-requires Inv-loop μ-loop Inv-loop2 μ-loop2
-name1-requires c κs = search needs
+name-requires : tie.Need-name-requires Inv-loop μ-loop Inv-loop2 μ-loop2
+name-requires c κs = search needs
 
 loop-holds : tie.Need-loop-holds Inv-loop μ-loop Inv-loop2 μ-loop2
 loop-holds c = search needs
@@ -81,7 +81,7 @@ row1-spec =
     μ-loop
     Inv-loop2
     μ-loop2
-    name1-requires
+    name-requires
     loop-holds
     mul-a
     array-copy-out-a

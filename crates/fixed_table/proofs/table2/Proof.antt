@@ -10,8 +10,8 @@ Inv-loop op i₀ i = i ≤ 24
 abbrev μ-loop : tie.MeasureT-loop
 μ-loop op i₀ i = 24 - i
 
-name2-requires : tie.Need-name2-requires Inv-loop μ-loop
-name2-requires c κs = search needs
+name-requires : tie.Need-name-requires Inv-loop μ-loop
+name-requires c κs = search needs
 
 loop-holds : tie.Need-loop-holds Inv-loop μ-loop
 loop-holds c = search needs
@@ -43,7 +43,7 @@ table2-spec =
     (tie.spec
     Inv-loop
     μ-loop
-    name2-requires
+    name-requires
     loop-holds
     mul-a
     array-copy-out-a

@@ -3,8 +3,8 @@ use mathlib.Core.Path.{_≡_, refl}
 use native.Mathlib.Omega.{arith}
 use borrow.Author.Needs.{needs}
 use Rattle.fixed.proofs.Fit.{read}
-use Rattle.frame.proofs.white.whitened_first.Statement.{statement}
-use Rattle.frame.proofs.white.whitened_first.Tie as tie
+use Rattle.befores.proofs.white.whitened_first.Statement.{statement}
+use Rattle.befores.proofs.white.whitened_first.Tie as tie
 
 whitened-requires : tie.Need-whitened-requires
 whitened-requires c κs = search needs

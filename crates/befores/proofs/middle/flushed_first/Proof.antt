@@ -4,8 +4,8 @@ use native.Mathlib.Omega.{arith}
 use borrow.Author.Needs.{needs}
 use Rattle.fixed.proofs.Fit.{read}
 use Rattle.steps.specs.Frame.{flushedFirst}
-use Rattle.frame.proofs.middle.flushed_first.Statement.{statement}
-use Rattle.frame.proofs.middle.flushed_first.Tie as tie
+use Rattle.befores.proofs.middle.flushed_first.Statement.{statement}
+use Rattle.befores.proofs.middle.flushed_first.Tie as tie
 
 middle-requires : tie.Need-middle-requires
 middle-requires c κs = search needs

@@ -7,8 +7,8 @@ use Rattle.fixed.proofs.Fit.{got32, read}
 use Rattle.path.proofs.Told.{fix}
 use Rattle.limits.proofs.Laws.{same-yes, same-no}
 use Rattle.steps.specs.Frame.{regained}
-use Rattle.frame.proofs.regain.regained.Statement.{statement}
-use Rattle.frame.proofs.regain.regained.Tie as tie
+use Rattle.befores.proofs.regain.regained.Statement.{statement}
+use Rattle.befores.proofs.regain.regained.Tie as tie
 
 returns : tie.Need-returns
 unfolding regained

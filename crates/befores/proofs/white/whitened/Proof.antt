@@ -3,8 +3,8 @@ use mathlib.Core.Path.{_≡_}
 use native.Mathlib.Omega.{arith}
 use borrow.Author.Needs.{needs}
 use Rattle.fixed.proofs.Fit.{read}
-use Rattle.frame.proofs.white.whitened.Statement.{statement}
-use Rattle.frame.proofs.white.whitened.Tie as tie
+use Rattle.befores.proofs.white.whitened.Statement.{statement}
+use Rattle.befores.proofs.white.whitened.Tie as tie
 
 mul-end : tie.Need-mul-end
 mul-end c = search needs

@@ -4,8 +4,8 @@ use Prim.Native.Nat.{_+_, _-_}
 use native.Mathlib.Omega.{arith}
 use borrow.Author.Needs.{needs}
 use Rattle.steps.specs.Frame.{rewhitened}
-use Rattle.frame.proofs.white.rewhitened.Statement.{statement}
-use Rattle.frame.proofs.white.rewhitened.Tie as tie
+use Rattle.befores.proofs.white.rewhitened.Statement.{statement}
+use Rattle.befores.proofs.white.rewhitened.Tie as tie
 
 add-end : tie.Need-add-end
 add-end c = search needs

@@ -5,9 +5,9 @@ use borrow.Author.Needs.{needs}
 use denote.Ref.{now}
 use Rattle.fixed.proofs.Fit.{read}
 use Rattle.path.specs.Data.{running}
-use Rattle.frame.proofs.Befores.{before-is}
-use Rattle.frame.proofs.before.before.Statement.{statement}
-use Rattle.frame.proofs.before.before.Tie as tie
+use Rattle.befores.proofs.Befores.{before-is}
+use Rattle.befores.proofs.before.before.Statement.{statement}
+use Rattle.befores.proofs.before.before.Tie as tie
 
 flushed-first-requires : tie.Need-flushed-first-requires
 flushed-first-requires c κs = search needs

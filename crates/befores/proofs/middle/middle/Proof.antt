@@ -10,8 +10,8 @@ use Rattle.fixed.proofs.Fit.{read}
 use Rattle.path.specs.Data.{Running, running}
 use Rattle.steps.specs.Flush.{Outs}
 use Rattle.steps.specs.Frame.{middleBy, middleWith, afterMiddle, flushedRun}
-use Rattle.frame.proofs.middle.middle.Statement.{statement}
-use Rattle.frame.proofs.middle.middle.Tie as tie
+use Rattle.befores.proofs.middle.middle.Statement.{statement}
+use Rattle.befores.proofs.middle.middle.Tie as tie
 
 best-requires : tie.Need-best-requires
 best-requires c κs = search needs
