@@ -5,6 +5,7 @@
 // loop over the lines of NSQ_del_dec.rs, cut out unchanged into a function, and over its offset table. That file says how to repeat it.
 use choice::candidate;
 use fixed::wrap;
+use program_words::bits;
 use residuals::offset;
 use seeds::generator;
 use shifts::shift;
@@ -98,7 +99,7 @@ fn word(x: i32) -> u32 {
 
 // One word more: FNV-1a of 32 bits, a word at a time.
 fn mixed(h: u32, x: i32) -> u32 {
-    wrap::mul_u32(h ^ word(x), 16777619)
+    bits::mul_u32(h ^ word(x), 16777619)
 }
 
 fn with_choice(h: u32, r: i32, lambda: i32, offset: i32) -> u32 {

@@ -5,14 +5,10 @@ use Rattle.fixed.proofs.wrap.low32.Reads as low32
 use Rattle.fixed.proofs.wrap.low16.Reads as low16
 use Rattle.fixed.proofs.wrap.high16.Reads as high16
 use Rattle.fixed.proofs.wrap.low8.Reads as low8
-use Rattle.fixed.proofs.wrap.bits32.Reads as bits32
-use Rattle.fixed.proofs.wrap.wide16.Reads as wide16
-use Rattle.fixed.proofs.wrap.wide8.Reads as wide8
 use Rattle.fixed.proofs.wrap.add32.Reads as add32
 use Rattle.fixed.proofs.wrap.sub32.Reads as sub32
 use Rattle.fixed.proofs.wrap.neg32.Reads as neg32
 use Rattle.fixed.proofs.wrap.mul32.Reads as mul32
-use Rattle.fixed.proofs.wrap.mul_u32.Reads as mul-u32
 
 pub low32-unique : (κs a r s e : _) → low32.Post κs a r e → low32.Post κs a s e → r ≡ s
 low32-unique κs a r s e p q = p ∙ sym q
@@ -26,15 +22,6 @@ high16-unique κs a r s e p q = p ∙ sym q
 pub low8-unique : (κs a r s e : _) → low8.Post κs a r e → low8.Post κs a s e → r ≡ s
 low8-unique κs a r s e p q = p ∙ sym q
 
-pub bits32-unique : (κs a r s e : _) → bits32.Post κs a r e → bits32.Post κs a s e → r ≡ s
-bits32-unique κs a r s e p q = p ∙ sym q
-
-pub wide16-unique : (κs a r s e : _) → wide16.Post κs a r e → wide16.Post κs a s e → r ≡ s
-wide16-unique κs a r s e p q = p ∙ sym q
-
-pub wide8-unique : (κs a r s e : _) → wide8.Post κs a r e → wide8.Post κs a s e → r ≡ s
-wide8-unique κs a r s e p q = p ∙ sym q
-
 pub add32-unique : (κs a r s e : _) → add32.Post κs a r e → add32.Post κs a s e → r ≡ s
 add32-unique κs a r s e p q = p ∙ sym q
 
@@ -46,6 +33,3 @@ neg32-unique κs a r s e p q = p ∙ sym q
 
 pub mul32-unique : (κs a r s e : _) → mul32.Post κs a r e → mul32.Post κs a s e → r ≡ s
 mul32-unique κs a r s e p q = p ∙ sym q
-
-pub mul-u32-unique : (κs a r s e : _) → mul-u32.Post κs a r e → mul-u32.Post κs a s e → r ≡ s
-mul-u32-unique κs a r s e p q = p ∙ sym q

@@ -1,9 +1,8 @@
 // Numbers that keep their low bits: what the release build does where a sum, a difference, a negation, a product or a
 // cast leaves its type.
 ghost use mathlib.Core.Path.{_≡_};
-ghost use Prim.Native.Nat.{_*_, _%_, _^_};
 ghost use lib.IntN.{_+ℤ_, _-ℤ_, _*ℤ_, negℤ};
-ghost use Rattle.fixed.specs.Wrap.{modZ, wrap32, wrap16, wrap8};
+ghost use Rattle.fixed.specs.Wrap.{wrap32, wrap16, wrap8};
 ghost use Rattle.fixed.specs.Shift.{shr};
 
 // The low 32 bits of x, with their sign: `x as i32`.
@@ -34,30 +33,6 @@ pub fn low8(x: i32) -> i8
     ((x << 24) >> 24) as i8
 }
 
-// The 32 bits of x as an unsigned number: `x as u32`.
-pub fn bits32(x: i32) -> u32
-    ensures { λ r. ⌜ r ≡ modZ x (2 ^ 32) ⌝ }
-{
-    if x < 0 {
-        ((x as i64) + 0x1_0000_0000) as u32
-    } else {
-        x as u32
-    }
-}
-
-// A 16-bit word as an i32, and an 8-bit word.
-pub fn wide16(x: i16) -> i32
-    ensures { λ r. ⌜ r ≡ x ⌝ }
-{
-    x as i32
-}
-
-pub fn wide8(x: i8) -> i32
-    ensures { λ r. ⌜ r ≡ x ⌝ }
-{
-    x as i32
-}
-
 pub fn add32(a: i32, b: i32) -> i32
     ensures { λ r. ⌜ r ≡ wrap32 (a +ℤ b) ⌝ }
 {
@@ -80,11 +55,4 @@ pub fn mul32(a: i32, b: i32) -> i32
     ensures { λ r. ⌜ r ≡ wrap32 (a *ℤ b) ⌝ }
 {
     low32((a as i64) * (b as i64))
-}
-
-// `a.wrapping_mul(b)` on u32: worked out in 64 bits and reduced.
-pub fn mul_u32(a: u32, b: u32) -> u32
-    ensures { λ r. ⌜ r ≡ a * b % 2 ^ 32 ⌝ }
-{
-    ((a as u64) * (b as u64) % 0x1_0000_0000) as u32
 }

@@ -1,4 +1,4 @@
-// Tables of every function of `fixed`, `shifts`, `products` and `seeds` on edge values: the ends of each type, numbers around each power of two that is a
+// Tables of every function of `fixed`, `shifts`, `products`, `seeds` and `program_words` on edge values: the ends of each type, numbers around each power of two that is a
 // shift, a rounding or a saturation edge, and two words with mixed bits. One line of results for each first argument.
 //
 // The file `stdout` was not made by this program. tests/rust/fixed_table.rs writes the same tables with the Rust
@@ -6,6 +6,7 @@
 //     rustc -O -C overflow-checks=no tests/rust/fixed_table.rs -o fixed_table && ./fixed_table > crates/fixed_table/stdout
 use fixed::wrap;
 use products::product;
+use program_words::bits;
 use seeds::generator;
 use shifts::range;
 use shifts::shift;
@@ -131,9 +132,9 @@ fn name(op: usize) {
 
 fn apply1(op: usize, a: i32) -> i32 {
     match op {
-        0 => wrap::wide16(wrap::low16(a)),
-        1 => wrap::wide16(wrap::high16(a)),
-        2 => wrap::wide8(wrap::low8(a)),
+        0 => bits::wide16(wrap::low16(a)),
+        1 => bits::wide16(wrap::high16(a)),
+        2 => bits::wide8(wrap::low8(a)),
         3 => wrap::neg32(a),
         4 => shift::rshift_round(a, 4),
         5 => shift::rshift_round(a, 5),
@@ -141,7 +142,7 @@ fn apply1(op: usize, a: i32) -> i32 {
         7 => shift::rshift_round(a, 10),
         8 => shift::rshift_round(a, 12),
         9 => shift::rshift_round(a, 14),
-        10 => wrap::wide16(range::sat16(a)),
+        10 => bits::wide16(range::sat16(a)),
         11 => range::abs32(a),
         12 => generator::rand(a),
         _ => range::clamp32(a, -31744, 30720),
@@ -160,9 +161,9 @@ fn apply2(op: usize, a: i32, b: i32) -> i32 {
         21 => product::smulww(a, b),
         22 => product::smmul(a, b),
         23 => shift::or32(a, b),
-        24 => range::min32(a, b),
-        25 => shift::shl32(a, wrap::bits32(b)),
-        26 => shift::shr32(a, wrap::bits32(b)),
+        24 => bits::min32(a, b),
+        25 => shift::shl32(a, bits::bits32(b)),
+        26 => shift::shr32(a, bits::bits32(b)),
         27 => product::smlabb(2147483647, a, b),
         28 => product::smlawb(-2147483648, a, wrap::low16(b)),
         29 => product::smlawt(2147483647, a, b),
@@ -182,7 +183,7 @@ fn print(v: i32) {
     if v < 0 {
         io::write_all(1, b"-");
     }
-    print_count(wrap::bits32(range::abs32(v)));
+    print_count(bits::bits32(range::abs32(v)));
 }
 
 fn end_line() {
@@ -232,7 +233,7 @@ fn row_bits32() {
     io::write_all(1, b"bits32\n");
     for i in 0..24 {
         let a = WORDS[i];
-        print_count(wrap::bits32(a));
+        print_count(bits::bits32(a));
     }
     end_line();
 }
@@ -250,14 +251,14 @@ fn table_u32() {
     io::write_all(1, b"mul_u32\n");
     for i in 0..24 {
         let a = WORDS[i];
-        row_u32(wrap::bits32(a));
+        row_u32(bits::bits32(a));
     }
 }
 
 fn row_u32(a: u32) {
     for j in 0..24 {
         let b = WORDS[j];
-        print_count(wrap::mul_u32(a, wrap::bits32(b)));
+        print_count(bits::mul_u32(a, bits::bits32(b)));
     }
     end_line();
 }

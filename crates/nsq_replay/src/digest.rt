@@ -1,6 +1,6 @@
 // FNV-1a of 64 bits over the bytes of 32-bit words, the lowest first. The 64 bits are held as two halves, since a product of 64
 // bits that wraps is unavailable.
-use fixed::wrap;
+use program_words::bits;
 
 // The upper and the lower 32 bits.
 pub struct Sum {
@@ -16,16 +16,16 @@ fn carry(low: u32) -> u32 {
 // One byte: the prime is 2^40 + 435.
 fn byte(sum: Sum, b: u32) -> Sum {
     let low = sum.low ^ b;
-    let high = std::num::wrapping_add_u32(wrap::mul_u32(sum.high, 435), carry(low));
+    let high = std::num::wrapping_add_u32(bits::mul_u32(sum.high, 435), carry(low));
     Sum {
-        high: std::num::wrapping_add_u32(high, wrap::mul_u32(low, 256)),
-        low: wrap::mul_u32(low, 435),
+        high: std::num::wrapping_add_u32(high, bits::mul_u32(low, 256)),
+        low: bits::mul_u32(low, 435),
     }
 }
 
 // One word.
 fn word(sum: Sum, x: i32) -> Sum {
-    let bits = wrap::bits32(x);
+    let bits = bits::bits32(x);
     let a = byte(sum, bits & 255);
     let b = byte(a, bits >> 8 & 255);
     let c = byte(b, bits >> 16 & 255);
@@ -51,7 +51,7 @@ pub fn halves(row: &[i16], n: usize) -> Sum {
     };
     for i in 0..n {
         if i < row.len() {
-            h = word(h, wrap::wide16(row[i]));
+            h = word(h, bits::wide16(row[i]));
         }
     }
     h

@@ -5,6 +5,7 @@ use crate::rows;
 use fixed::wrap;
 use limits::count;
 use plain_answers::answers;
+use program_words::bits;
 use shifts::range;
 use silk::structs::NsqState;
 use silk::structs::Settings;
@@ -17,7 +18,7 @@ fn signed(z: i32, i: usize, n: usize)
     if z < 0 {
         io::write_all(1, b"-");
     }
-    io::print_decimal(1, wrap::bits32(range::abs32(z)) as u64);
+    io::print_decimal(1, bits::bits32(range::abs32(z)) as u64);
     if i % 20 == 19 || n <= i + 1 {
         io::write_all(1, b"\n");
     } else {
@@ -29,7 +30,7 @@ fn signed(z: i32, i: usize, n: usize)
 fn pulses(row: &[i8]) {
     let mut i = 0usize;
     while i < row.len() {
-        signed(wrap::wide8(row[i]), i, row.len());
+        signed(bits::wide8(row[i]), i, row.len());
         i += 1;
     }
 }

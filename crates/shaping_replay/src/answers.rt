@@ -5,6 +5,7 @@ use harmonic::terms;
 use noise::noise_terms;
 use noise::output;
 use noise::residual;
+use program_words::bits;
 use shaping::long_prediction;
 use shaping::short_prediction;
 use warped::warped_filter;
@@ -31,9 +32,9 @@ fn of_words(function: usize, a: i32) -> i32 {
         5 => noise_terms::n_LF(x, y, words::word(c)),
         6 => terms::harm_shape_packed(x),
         8 => residual_of(x, y, c),
-        9 => wrap::wide8(output::pulse_of(words::level(a))),
-        10 => wrap::wide16(output::xq_out8(x, y)),
-        _ => wrap::wide16(output::xq_out14(x, y)),
+        9 => bits::wide8(output::pulse_of(words::level(a))),
+        10 => bits::wide16(output::xq_out8(x, y)),
+        _ => bits::wide16(output::xq_out14(x, y)),
     }
 }
 

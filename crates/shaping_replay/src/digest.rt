@@ -1,5 +1,5 @@
 // The digest FNV-1a of 64 bits.
-use fixed::wrap;
+use program_words::bits;
 use std::num;
 
 pub fn start() -> u64 {
@@ -8,7 +8,7 @@ pub fn start() -> u64 {
 
 // The digest with the four bytes of a word more, the lowest first.
 pub fn word(sum: u64, x: i32) -> u64 {
-    let bits = wrap::bits32(x) as u64;
+    let bits = bits::bits32(x) as u64;
     let one = byte(sum, bits % 256);
     let two = byte(one, bits / 256 % 256);
     let three = byte(two, bits / 65536 % 256);

@@ -8,7 +8,7 @@ mod answers;
 mod digest;
 mod words;
 
-use fixed::wrap;
+use program_words::bits;
 use seeds::generator;
 use shifts::range;
 
@@ -61,5 +61,5 @@ fn print(x: i32) {
     if x < 0 {
         io::write_all(1, b"-");
     }
-    io::print_decimal(1, wrap::bits32(range::abs32(x)) as u64);
+    io::print_decimal(1, bits::bits32(range::abs32(x)) as u64);
 }

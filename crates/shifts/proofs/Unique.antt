@@ -8,7 +8,6 @@ use Rattle.shifts.proofs.shift.or32.Reads as or32
 use Rattle.shifts.proofs.shift.clz32.Reads as clz32
 use Rattle.shifts.proofs.range.clamp32.Reads as clamp32
 use Rattle.shifts.proofs.range.sat16.Reads as sat16
-use Rattle.shifts.proofs.range.min32.Reads as min32
 use Rattle.shifts.proofs.range.abs32.Reads as abs32
 
 pub shl32-unique : (κs a r s e : _) → shl32.Post κs a r e → shl32.Post κs a s e → r ≡ s
@@ -31,9 +30,6 @@ clamp32-unique κs a r s e p q = p ∙ sym q
 
 pub sat16-unique : (κs a r s e : _) → sat16.Post κs a r e → sat16.Post κs a s e → r ≡ s
 sat16-unique κs a r s e p q = p ∙ sym q
-
-pub min32-unique : (κs a r s e : _) → min32.Post κs a r e → min32.Post κs a s e → r ≡ s
-min32-unique κs a r s e p q = p ∙ sym q
 
 pub abs32-unique : (κs a r s e : _) → abs32.Post κs a r e → abs32.Post κs a s e → r ≡ s
 abs32-unique κs a r s e p q = p ∙ sym q

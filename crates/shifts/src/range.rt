@@ -1,6 +1,6 @@
 // Numbers held to a range.
 ghost use mathlib.Core.Path.{_≡_};
-ghost use Rattle.fixed.specs.Range.{clamp, sat16 as sat16Z, minZ, abs32 as abs32Z};
+ghost use Rattle.fixed.specs.Range.{clamp, sat16 as sat16Z, abs32 as abs32Z};
 use fixed::wrap;
 
 // v, or the end of the range that it is past; `lo` is meant to be at most `hi`, and `hi` is looked at first.
@@ -23,12 +23,6 @@ pub fn sat16(v: i32) -> i16
     } else {
         if v < -32768 { -32768 } else { v as i16 }
     }
-}
-
-pub fn min32(a: i32, b: i32) -> i32
-    ensures { λ r. ⌜ r ≡ minZ a b ⌝ }
-{
-    if a < b { a } else { b }
 }
 
 // |x|, but for the least number, whose negation wraps to itself.

@@ -1,12 +1,12 @@
 // Digests of rows: FNV-1a of 32 bits, a word at a time.
 ghost use Prim.Native.Nat.{_<_};
-use fixed::wrap;
 use path::structs::Path;
+use program_words::bits;
 
 const START: u32 = 2166136261;
 
 fn mixed(h: u32, x: i32) -> u32 {
-    wrap::mul_u32(h ^ wrap::bits32(x), 16777619)
+    bits::mul_u32(h ^ bits::bits32(x), 16777619)
 }
 
 fn words(start: u32, row: &[i32]) -> u32 {
@@ -79,7 +79,7 @@ fn print_halves(row: &[i16]) {
     let mut h = START;
     let n = row.len();
     for i in 0..n {
-        h = mixed(h, wrap::wide16(row[i]));
+        h = mixed(h, bits::wide16(row[i]));
     }
     print(h);
 }
@@ -89,7 +89,7 @@ fn print_pulses(row: &[i8]) {
     let mut h = START;
     let n = row.len();
     for i in 0..n {
-        h = mixed(h, wrap::wide8(row[i]));
+        h = mixed(h, bits::wide8(row[i]));
     }
     print_last(h);
 }

@@ -1,8 +1,8 @@
--- `fixed::wrap::wide16` meets its contract. Assumes nothing.
+-- `program_words::bits::wide16` meets its contract. Assumes nothing.
 use borrow.Author.Needs.{needs}
 use Rattle.fixed.proofs.Fit.{fit}
-use Rattle.fixed.proofs.wrap.wide16.Statement.{statement}
-use Rattle.fixed.proofs.wrap.wide16.Tie as tie
+use Rattle.program_words.proofs.bits.wide16.Statement.{statement}
+use Rattle.program_words.proofs.bits.wide16.Tie as tie
 
 cast-result : tie.Need-cast-result
 cast-result c = search (needs, fit)

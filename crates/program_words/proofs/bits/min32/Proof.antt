@@ -1,8 +1,8 @@
--- `fixed::range::min32` meets its contract. Assumes nothing.
+-- `program_words::bits::min32` meets its contract. Assumes nothing.
 use Rattle.fixed.specs.Range.{minZ}
 use Rattle.fixed.proofs.Fit.{read, test32}
-use Rattle.shifts.proofs.range.min32.Statement.{statement}
-use Rattle.shifts.proofs.range.min32.Tie as tie
+use Rattle.program_words.proofs.bits.min32.Statement.{statement}
+use Rattle.program_words.proofs.bits.min32.Tie as tie
 
 returns : tie.Need-returns
 unfolding minZ

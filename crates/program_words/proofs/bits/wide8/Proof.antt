@@ -1,8 +1,8 @@
--- `fixed::wrap::wide8` meets its contract. Assumes nothing.
+-- `program_words::bits::wide8` meets its contract. Assumes nothing.
 use borrow.Author.Needs.{needs}
 use Rattle.fixed.proofs.Fit.{read, fit8-32}
-use Rattle.fixed.proofs.wrap.wide8.Statement.{statement}
-use Rattle.fixed.proofs.wrap.wide8.Tie as tie
+use Rattle.program_words.proofs.bits.wide8.Statement.{statement}
+use Rattle.program_words.proofs.bits.wide8.Tie as tie
 
 cast-result : tie.Need-cast-result
 cast-result c = rw (read (c .fits .x)) (fit8-32 (c .fits .x))

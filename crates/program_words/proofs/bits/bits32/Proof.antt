@@ -1,4 +1,4 @@
--- `fixed::wrap::bits32` meets its contract. Assumes nothing.
+-- `program_words::bits::bits32` meets its contract. Assumes nothing.
 use mathlib.Core.Path.{_≡_}
 use mathlib.Core.Bool.{true, false}
 use Prim.Native.Nat.{ℕ, suc, _-_, _^_, _%_, _<_}
@@ -10,11 +10,11 @@ use mir.Syntax.{w32, w64}
 use mir.Val.{SFits}
 use mir.Facts.{fits-natAbs}
 use borrow.Author.Needs.{needs}
 use Rattle.fixed.specs.Wrap.{modZ}
 use Rattle.fixed.proofs.Fit.{fit, read, wide32, test32, lit32, not-below}
 use Rattle.fixed.proofs.Lin.{eq-of, add-lin, mod-lin, lt-true}
-use Rattle.fixed.proofs.wrap.bits32.Statement.{statement}
-use Rattle.fixed.proofs.wrap.bits32.Tie as tie
+use Rattle.program_words.proofs.bits.bits32.Statement.{statement}
+use Rattle.program_words.proofs.bits.bits32.Tie as tie
 
 -- a negative word, lifted by 2^32
 lifted : (z : ℤ) → SFits w32 z → ltZ z (pos 0) ≡ true → z +ℤ pos (2 ^ 32) ≡ pos (modZ z (2 ^ 32))

@@ -1,9 +1,9 @@
--- `fixed::wrap::mul_u32` meets its contract. Assumes nothing.
+-- `program_words::bits::mul_u32` meets its contract. Assumes nothing.
 use borrow.Author.Needs.{needs}
 use native.Mathlib.Nat.{lt-of-le-of-lt, mul-le-mul, le-pred-of-lt}
 use lib.Dec.{lit<}
-use Rattle.fixed.proofs.wrap.mul_u32.Statement.{statement}
-use Rattle.fixed.proofs.wrap.mul_u32.Tie as tie
+use Rattle.program_words.proofs.bits.mul_u32.Statement.{statement}
+use Rattle.program_words.proofs.bits.mul_u32.Tie as tie
 
 mul-result : tie.Need-mul-result
 mul-result c = record { fits = lt-of-le-of-lt (mul-le-mul (le-pred-of-lt (c .fits .a .fits)) (le-pred-of-lt (c .fits .b .fits))) (lit< tt) }
