@@ -1,4 +1,4 @@
--- `frame::before::before` meets its contract. Assumes nothing.
+-- `befores::before::before` meets its contract. Assumes nothing.
 use mathlib.Core.Path.{_≡_, _∙_}
 use native.Mathlib.Omega.{arith}
 use borrow.Author.Needs.{needs}

@@ -1,4 +1,4 @@
--- `frame::middle::flushed_first` meets its contract. Assumes nothing.
+-- `befores::middle::flushed_first` meets its contract. Assumes nothing.
 use mathlib.Core.Path.{_≡_, refl}
 use native.Mathlib.Omega.{arith}
 use borrow.Author.Needs.{needs}

@@ -1,4 +1,4 @@
--- `frame::middle::middle` meets its contract. Assumes nothing.
+-- `befores::middle::middle` meets its contract. Assumes nothing.
 use mathlib.Core.Path.{_≡_, refl, ap, _∙_}
 use mathlib.Core.List.{List}
 use Prim.Native.Nat.{ℕ}

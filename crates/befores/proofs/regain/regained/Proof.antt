@@ -1,4 +1,4 @@
--- `frame::regain::regained` meets its contract. Assumes nothing.
+-- `befores::regain::regained` meets its contract. Assumes nothing.
 use mathlib.Core.Path.{_≡_, refl, _∙_}
 use borrow.Author.Needs.{needs}
 use mir.Syntax.{w32}

@@ -1,4 +1,4 @@
--- `frame::white::rewhitened` meets its contract. Assumes nothing.
+-- `befores::white::rewhitened` meets its contract. Assumes nothing.
 use mathlib.Core.Path.{_≡_}
 use Prim.Native.Nat.{_+_, _-_}
 use native.Mathlib.Omega.{arith}

@@ -1,4 +1,4 @@
--- `frame::white::whitened` meets its contract. Assumes nothing.
+-- `befores::white::whitened` meets its contract. Assumes nothing.
 use mathlib.Core.Path.{_≡_}
 use native.Mathlib.Omega.{arith}
 use borrow.Author.Needs.{needs}

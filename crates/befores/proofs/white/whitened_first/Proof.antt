@@ -1,4 +1,4 @@
--- `frame::white::whitened_first` meets its contract. Assumes nothing.
+-- `befores::white::whitened_first` meets its contract. Assumes nothing.
 use mathlib.Core.Path.{_≡_, refl}
 use native.Mathlib.Omega.{arith}
 use borrow.Author.Needs.{needs}

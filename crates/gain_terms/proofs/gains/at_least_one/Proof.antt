@@ -1,4 +1,4 @@
--- `silk::gains::at_least_one` meets its contract. Assumes nothing.
+-- `gain_terms::gains::at_least_one` meets its contract. Assumes nothing.
 use mathlib.Core.Path.{refl}
 use native.Mathlib.Omega.{arith}
 use lib.IntN.{pos}

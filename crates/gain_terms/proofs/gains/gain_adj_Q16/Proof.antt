@@ -1,4 +1,4 @@
--- `silk::gains::gain_adj_Q16` meets its contract. Assumes nothing.
+-- `gain_terms::gains::gain_adj_Q16` meets its contract. Assumes nothing.
 use mathlib.Core.Path.{_∙_}
 use borrow.Author.Needs.{needs}
 use Rattle.word_steps.specs.Gains.{«gain_adj_Q16»}

@@ -1,4 +1,4 @@
--- `silk::gains::ltp_scaled_inv_gain` meets its contract. Assumes nothing.
+-- `gain_terms::gains::ltp_scaled_inv_gain` meets its contract. Assumes nothing.
 use mathlib.Core.Path.{_∙_}
 use borrow.Author.Needs.{needs}
 use Rattle.word_steps.specs.Gains.{«ltp_scaled_inv_gain»}

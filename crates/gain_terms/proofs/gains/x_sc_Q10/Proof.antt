@@ -1,4 +1,4 @@
--- `silk::gains::x_sc_Q10` meets its contract. Assumes nothing.
+-- `gain_terms::gains::x_sc_Q10` meets its contract. Assumes nothing.
 use mathlib.Core.Path.{_∙_}
 use borrow.Author.Needs.{needs}
 use Rattle.word_steps.specs.Gains.{«x_sc_Q10»}

@@ -1,4 +1,4 @@
--- `silk::inverse::b32_inv` meets its contract. Assumes nothing.
+-- `inverses::inverse::b32_inv` meets its contract. Assumes nothing.
 use Prim.Native.Nat.{_^_}
 use mir.Syntax.{w32}
 use Rattle.fixed.specs.Shift.{shr}

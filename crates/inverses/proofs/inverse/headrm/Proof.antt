@@ -1,4 +1,4 @@
--- `silk::inverse::headrm` meets its contract. Assumes nothing.
+-- `inverses::inverse::headrm` meets its contract. Assumes nothing.
 use mathlib.Core.Path.{_≡_, _∙_, refl}
 use native.Mathlib.Omega.{arith}
 use borrow.Author.Needs.{needs}

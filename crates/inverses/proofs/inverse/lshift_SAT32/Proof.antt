@@ -1,4 +1,4 @@
--- `silk::inverse::lshift_SAT32` meets its contract. Assumes nothing.
+-- `inverses::inverse::lshift_SAT32` meets its contract. Assumes nothing.
 use mathlib.Core.Path.{_∙_}
 use borrow.Author.Needs.{needs}
 use Rattle.word_steps.specs.Inlines.{«lshift_SAT32»}

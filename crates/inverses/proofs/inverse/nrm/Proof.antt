@@ -1,4 +1,4 @@
--- `silk::inverse::nrm` meets its contract. Assumes nothing.
+-- `inverses::inverse::nrm` meets its contract. Assumes nothing.
 use mathlib.Core.Path.{_≡_, _∙_}
 use borrow.Author.Needs.{needs}
 use mir.Syntax.{w32}

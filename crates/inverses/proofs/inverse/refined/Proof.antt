@@ -1,4 +1,4 @@
--- `silk::inverse::refined` meets its contract. Assumes nothing.
+-- `inverses::inverse::refined` meets its contract. Assumes nothing.
 use mathlib.Core.Path.{_∙_}
 use borrow.Author.Needs.{needs}
 use Rattle.word_steps.specs.Inlines.{refined, «err_Q32»}

@@ -1,4 +1,4 @@
--- `silk::inverse::result_2` meets its contract. Assumes nothing.
+-- `inverses::inverse::result_2` meets its contract. Assumes nothing.
 use mathlib.Core.Path.{_∙_}
 use borrow.Author.Needs.{needs}
 use Rattle.word_steps.specs.Inlines.{«result_2», rest, «result_1»}

@@ -1,4 +1,4 @@
--- `silk::inverse::shifted` meets its contract. Assumes nothing.
+-- `inverses::inverse::shifted` meets its contract. Assumes nothing.
 use mathlib.Core.Path.{_∙_}
 use borrow.Author.Needs.{needs}
 use borrow.Author.Tests.{le-leb, lt-leb, lt-ltb, le-ltb}

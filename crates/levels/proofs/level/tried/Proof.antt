@@ -1,4 +1,4 @@
--- `choice::level::tried` meets its contract. Assumes nothing.
+-- `levels::level::tried` meets its contract. Assumes nothing.
 use mathlib.Core.Path.{_≡_, refl, sym, ap, _∙_}
 use mathlib.Core.Bool.{true, false}
 use lib.IntN.{ℤ, pos, negsuc}

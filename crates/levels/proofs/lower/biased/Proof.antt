@@ -1,4 +1,4 @@
--- `choice::lower::biased` meets its contract. Assumes nothing.
+-- `levels::lower::biased` meets its contract. Assumes nothing.
 use mathlib.Core.Path.{_∙_}
 use lib.IntN.{pos}
 use borrow.Author.Needs.{needs}

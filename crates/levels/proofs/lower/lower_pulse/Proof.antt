@@ -1,4 +1,4 @@
--- `choice::lower::lower_pulse` meets its contract. Assumes nothing.
+-- `levels::lower::lower_pulse` meets its contract. Assumes nothing.
 use mathlib.Core.Path.{_∙_}
 use Prim.Native.Nat.{_<_}
 use lib.IntN.{pos}

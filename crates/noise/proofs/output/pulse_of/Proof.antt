@@ -1,4 +1,4 @@
--- `shaping::output::pulse_of` meets its contract. Assumes nothing.
+-- `noise::output::pulse_of` meets its contract. Assumes nothing.
 use mathlib.Core.Path.{_∙_}
 use borrow.Author.Needs.{needs}
 use mir.Syntax.{w8}

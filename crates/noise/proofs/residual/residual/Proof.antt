@@ -1,4 +1,4 @@
--- `shaping::residual::residual` meets its contract. Assumes nothing.
+-- `noise::residual::residual` meets its contract. Assumes nothing.
 use mathlib.Core.Path.{_∙_}
 use borrow.Author.Needs.{needs}
 use Rattle.fixed.proofs.Fit.{read, got32}

@@ -1,4 +1,4 @@
--- `choice::offset::quant_offset` meets its contract. Assumes nothing.
+-- `residuals::offset::quant_offset` meets its contract. Assumes nothing.
 use borrow.Author.Needs.{needs}
 use Rattle.fixed.proofs.Fit.{back}
 use mir.Syntax.{w32}

@@ -1,4 +1,4 @@
--- `products::generator::rand` meets its contract. Assumes nothing.
+-- `seeds::generator::rand` meets its contract. Assumes nothing.
 use mathlib.Core.Path.{_∙_}
 use borrow.Author.Needs.{needs}
 use Rattle.fixed.proofs.Fit.{read, got32}

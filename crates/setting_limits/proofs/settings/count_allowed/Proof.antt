@@ -1,4 +1,4 @@
--- `limits::settings::count_allowed` meets its contract. Assumes nothing.
+-- `setting_limits::settings::count_allowed` meets its contract. Assumes nothing.
 use lib.IntN.{pos}
 use Rattle.fixed.proofs.Fit.{lit32}
 use Rattle.limits.specs.Tests.{countAllowed}

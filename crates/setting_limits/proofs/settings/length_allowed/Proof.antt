@@ -1,4 +1,4 @@
--- `limits::settings::length_allowed` meets its contract. Assumes nothing.
+-- `setting_limits::settings::length_allowed` meets its contract. Assumes nothing.
 use lib.IntN.{pos}
 use Rattle.fixed.proofs.Fit.{lit32}
 use Rattle.limits.specs.Tests.{lengthAllowed}

@@ -1,4 +1,4 @@
--- `limits::settings::odd` meets its contract. Assumes nothing.
+-- `setting_limits::settings::odd` meets its contract. Assumes nothing.
 use borrow.Author.Needs.{needs}
 use mathlib.Core.Path.{_≡_}
 use Rattle.fixed.proofs.Fit.{read}

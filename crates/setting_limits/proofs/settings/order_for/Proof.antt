@@ -1,4 +1,4 @@
--- `limits::settings::order_for` meets its contract. Assumes nothing.
+-- `setting_limits::settings::order_for` meets its contract. Assumes nothing.
 use lib.IntN.{pos}
 use Rattle.fixed.proofs.Fit.{lit32}
 use Rattle.limits.specs.Tests.{orderFor}

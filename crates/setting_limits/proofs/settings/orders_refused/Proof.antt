@@ -1,4 +1,4 @@
--- `limits::settings::orders_refused` meets its contract. Assumes nothing.
+-- `setting_limits::settings::orders_refused` meets its contract. Assumes nothing.
 use borrow.Author.Needs.{needs}
 use mathlib.Core.Path.{_≡_, sym, _∙_}
 use lib.IntN.{pos}

@@ -1,4 +1,4 @@
--- `limits::settings::outside` meets its contract. Assumes nothing.
+-- `setting_limits::settings::outside` meets its contract. Assumes nothing.
 use Rattle.fixed.proofs.Fit.{read, test32}
 use Rattle.limits.specs.Tests.{outside}
 use Rattle.setting_limits.proofs.settings.outside.Statement.{statement}

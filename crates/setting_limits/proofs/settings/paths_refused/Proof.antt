@@ -1,4 +1,4 @@
--- `limits::settings::paths_refused` meets its contract. Assumes nothing.
+-- `setting_limits::settings::paths_refused` meets its contract. Assumes nothing.
 use borrow.Author.Needs.{needs}
 use Rattle.fixed.proofs.Fit.{read}
 use Rattle.limits.specs.Tests.{pathsRefused}

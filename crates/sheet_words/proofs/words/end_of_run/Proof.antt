@@ -1,4 +1,4 @@
--- `sheet_form::number::end_of_run` meets its contract. Assumes nothing.
+-- `sheet_words::words::end_of_run` meets its contract. Assumes nothing.
 use mathlib.Core.Path.{_≡_, sym, _∙_}
 use Prim.Native.Nat.{_+_, _-_}
 use native.Mathlib.Omega.{arith}

@@ -1,4 +1,4 @@
--- `sheet_form::number::in_class` meets its contract. Assumes nothing.
+-- `sheet_words::words::in_class` meets its contract. Assumes nothing.
 use mathlib.Core.Path.{sym, _∙_}
 use borrow.Author.Needs.{needs}
 use Rattle.sheet_words.proofs.Classes.{is-separator, is-in-word, is-digit, separator-32, separator-10, in-word-10, in-word-32, digit-57, digit-48}

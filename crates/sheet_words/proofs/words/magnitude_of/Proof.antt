@@ -1,4 +1,4 @@
--- `sheet_form::number::magnitude_of` meets its contract. Assumes nothing.
+-- `sheet_words::words::magnitude_of` meets its contract. Assumes nothing.
 use mathlib.Core.Path.{_≡_}
 use native.Mathlib.Omega.{arith}
 use borrow.Author.Needs.{needs}

@@ -1,4 +1,4 @@
--- `sheet_form::number::number_of` meets its contract. Assumes nothing.
+-- `sheet_words::words::number_of` meets its contract. Assumes nothing.
 use mathlib.Core.Path.{ap, _∙_}
 use borrow.Author.Needs.{needs}
 use mathlib.Core.Bool.{true, false}

@@ -1,4 +1,4 @@
--- `sheet_form::number::signed` meets its contract. Assumes nothing.
+-- `sheet_words::words::signed` meets its contract. Assumes nothing.
 use borrow.Author.Needs.{needs}
 use Rattle.sheet_words.specs.Number.{signed}
 use Rattle.sheet_words.proofs.Signs.{small-fits, small-read, minus-fits, minus-read}

@@ -1,4 +1,4 @@
--- `sheet_form::number::value` meets its contract. Assumes nothing.
+-- `sheet_words::words::value` meets its contract. Assumes nothing.
 use mathlib.Core.Path.{_≡_, sym, _∙_}
 use Prim.Native.Nat.{_-_, _≤_}
 use native.Mathlib.Omega.{arith}

@@ -1,4 +1,4 @@
--- `fixed::range::abs32` meets its contract. Assumes nothing.
+-- `shifts::range::abs32` meets its contract. Assumes nothing.
 use mathlib.Core.Path.{_∙_}
 use lib.IntN.{pos}
 use borrow.Author.Needs.{needs}

@@ -1,4 +1,4 @@
--- `fixed::range::clamp32` meets its contract. Assumes nothing.
+-- `shifts::range::clamp32` meets its contract. Assumes nothing.
 use Rattle.fixed.specs.Range.{clamp}
 use Rattle.fixed.proofs.Fit.{read, test32}
 use Rattle.shifts.proofs.range.clamp32.Statement.{statement}

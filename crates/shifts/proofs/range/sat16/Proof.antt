@@ -1,4 +1,4 @@
--- `fixed::range::sat16` meets its contract. Assumes nothing.
+-- `shifts::range::sat16` meets its contract. Assumes nothing.
 use mathlib.Core.Path.{_∙_, subst⁻¹}
 use native.Mathlib.Omega.{arith}
 use lib.IntN.{pos, negsuc}

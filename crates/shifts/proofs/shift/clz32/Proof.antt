@@ -1,4 +1,4 @@
--- `fixed::shift::clz32` meets its contract. Assumes nothing.
+-- `shifts::shift::clz32` meets its contract. Assumes nothing.
 use lib.IntN.{pos}
 use mir.Facts.{fits-natAbs}
 use borrow.Author.Needs.{needs}

@@ -1,4 +1,4 @@
--- `fixed::shift::or32` meets its contract. Assumes nothing.
+-- `shifts::shift::or32` meets its contract. Assumes nothing.
 use mathlib.Core.Path.{_≡_, _∙_, ap, refl}
 use Prim.Native.Nat.{_^_, _%_}
 use native.Mathlib.Omega.{arith}

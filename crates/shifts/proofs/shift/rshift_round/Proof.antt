@@ -1,4 +1,4 @@
--- `fixed::shift::rshift_round` meets its contract. Assumes nothing.
+-- `shifts::shift::rshift_round` meets its contract. Assumes nothing.
 use mathlib.Core.Path.{_≡_, _∙_, ap, subst⁻¹}
 use Prim.Native.Nat.{ℕ, _-_, _^_, _≤_}
 use native.Mathlib.Omega.{arith}

@@ -1,4 +1,4 @@
--- `fixed::shift::shl32` meets its contract. Assumes nothing.
+-- `shifts::shift::shl32` meets its contract. Assumes nothing.
 use Prim.Native.Nat.{_%_, _^_}
 use borrow.Author.Needs.{needs}
 use Rattle.fixed.proofs.Wraps as W

@@ -1,4 +1,4 @@
--- `fixed::shift::shr32` meets its contract. Assumes nothing.
+-- `shifts::shift::shr32` meets its contract. Assumes nothing.
 use Prim.Native.Nat.{_%_, _^_}
 use borrow.Author.Needs.{needs}
 use Rattle.fixed.specs.Shift.{shr32, shr}
