@@ -25,10 +25,14 @@ sameRow (a ∷ s) (b ∷ t) = sameZ a b && sameRow s t
 unfoldable pub given : Call → Outcome
 given c = outcome keepsFirst c (replicate 80 (pos 5)) (replicate 80 (pos 0))
 
--- have all pairs of calls different pulses?
-unfoldable pub differ : List (Call × Call) → Bool
-differ [] = true
-differ (a ∷ l) = not (sameRow (given (a .0) .pulses) (given (a .1) .pulses)) && differ l
+-- have all these calls other pulses than those?
+unfoldable pub others : List ℤ → List Call → Bool
+others r [] = true
+others r (c ∷ l) = not (sameRow r (given c .pulses)) && others r l
+
+-- have all these calls other pulses than this one?
+unfoldable pub differ : Call → List Call → Bool
+differ c l = others (given c .pulses) l
 
 -- ---- calls with L 40, prediction order 10 and shaping order 2
 -- n, path count, type, interpolation, warping, LTP scale
@@ -154,34 +158,51 @@ withLags c r = callOf (c .settings) (c .state) (c .«PredCoef_Q12») (c .«LTPCo
 unfoldable pub shaped : Call → Call
 shaped c = withAr c (replicate 48 (pos 2000))
 
--- ---- the pulses of each of these pairs differ
-unfoldable pub pairs : List (Call × Call)
-pairs =
+-- ---- the pulses of each of these differ from those of the call that they are made from
+unfoldable pub byQuiet : List Call
+byQuiet =
     -- the last PredCoef slot below the order, of row 0
-    (quiet, withPred quiet (set preds 9 (pos 4000)))
-    -- .. and of row 1 where interpolation is 4
-    ∷ (one, withPred one (set preds 25 (pos 4000)))
+    withPred quiet (set preds 9 (pos 4000))
     -- the last AR slot below the shaping order, of the last subframe
-    ∷ (quiet, withAr quiet (set ars 25 (pos 16000)))
-    -- voiced: the last word of LTPCoef
-    ∷ (voiced, withLtp voiced (set ltps 9 (pos 9000)))
-    -- voiced: a lag that is not the last
-    ∷ (voiced, withLags voiced (pos 17 ∷ pos 16 ∷ []))
-    -- not voiced: the harmonic gains where lagPrev is not 0
-    ∷ (quiet, withHarm quiet (each (pos 16000)))
-    -- bit 15 of the warping, of a tilt, and of the LTP scale of a voiced frame
-    ∷ (shaped quiet, shaped (call (settings (pos 0) (pos 0) (pos 33068) (pos 0)) (after (pos 16))))
-    ∷ (quiet, withTilt quiet (pos 3000 ∷ pos 35768 ∷ []))
-    ∷ (voiced, call (settings (pos 2) (pos 0) (pos 300) (pos 48768)) (after (pos 16)))
-    -- not voiced: lagPrev
-    ∷ (quiet, call (settings (pos 0) (pos 0) (pos 300) (pos 0)) (after (pos 17)))
+    ∷ withAr quiet (set ars 25 (pos 16000))
+    -- the harmonic gains where lagPrev is not 0
+    ∷ withHarm quiet (each (pos 16000))
+    -- bit 15 of a tilt
+    ∷ withTilt quiet (pos 3000 ∷ pos 35768 ∷ [])
+    -- lagPrev
+    ∷ call (settings (pos 0) (pos 0) (pos 300) (pos 0)) (after (pos 17))
     -- shaping word 4L - 1, LPC word 15
-    ∷ (quiet, call (settings (pos 0) (pos 0) (pos 300) (pos 0)) (state history (set shapes 159 (pos 90000)) lpcs filter (pos 16)))
-    ∷ (quiet, call (settings (pos 0) (pos 0) (pos 300) (pos 0)) (state history shapes (set lpcs 15 (pos 900000)) filter (pos 16)))
-    -- sLF_AR_shp_Q14, sDiff_shp_Q14, prev_gain_Q16
-    ∷ (quiet, call (settings (pos 0) (pos 0) (pos 300) (pos 0)) (stateOf (pos 200000) (pos 20000) (pos 65536) history shapes lpcs filter (pos 16)))
-    ∷ (shaped quiet, shaped (call (settings (pos 0) (pos 0) (pos 300) (pos 0)) (stateOf (pos 20000) (pos 200000) (pos 65536) history shapes lpcs filter (pos 16))))
-    ∷ (quiet, call (settings (pos 0) (pos 0) (pos 300) (pos 0)) (stateOf (pos 20000) (pos 20000) (pos 300000) history shapes lpcs filter (pos 16)))
+    ∷ call (settings (pos 0) (pos 0) (pos 300) (pos 0)) (state history (set shapes 159 (pos 90000)) lpcs filter (pos 16))
+    ∷ call (settings (pos 0) (pos 0) (pos 300) (pos 0)) (state history shapes (set lpcs 15 (pos 900000)) filter (pos 16))
+    -- sLF_AR_shp_Q14, prev_gain_Q16
+    ∷ call (settings (pos 0) (pos 0) (pos 300) (pos 0)) (stateOf (pos 200000) (pos 20000) (pos 65536) history shapes lpcs filter (pos 16))
+    ∷ call (settings (pos 0) (pos 0) (pos 300) (pos 0)) (stateOf (pos 20000) (pos 20000) (pos 300000) history shapes lpcs filter (pos 16))
+    ∷ []
+
+-- ..
+unfoldable pub byShaped : List Call
+byShaped =
+    -- bit 15 of the warping
+    shaped (call (settings (pos 0) (pos 0) (pos 33068) (pos 0)) (after (pos 16)))
+    -- sDiff_shp_Q14
+    ∷ shaped (call (settings (pos 0) (pos 0) (pos 300) (pos 0)) (stateOf (pos 20000) (pos 200000) (pos 65536) history shapes lpcs filter (pos 16)))
+    ∷ []
+
+-- ..
+unfoldable pub byOne : List Call
+byOne =
+    -- the last PredCoef slot below the order, of row 1, where interpolation is 4
+    withPred one (set preds 25 (pos 4000)) ∷ []
+
+-- ..
+unfoldable pub byVoiced : List Call
+byVoiced =
+    -- the last word of LTPCoef
+    withLtp voiced (set ltps 9 (pos 9000))
+    -- a lag that is not the last
+    ∷ withLags voiced (pos 17 ∷ pos 16 ∷ [])
+    -- bit 15 of the LTP scale
+    ∷ call (settings (pos 2) (pos 0) (pos 300) (pos 48768)) (after (pos 16))
     ∷ []
 
 -- ---- words of the state that is handed out, with one word of the call changed

@@ -14,12 +14,12 @@ fn own_seed(seed: i32, k: i32, twins: bool) -> i32 {
 
 fn path(seed: i32, s: u32) -> Path {
     Path {
-        sAR2_Q14: words::words24(words::seed_of(seed, 7), s),
-        LF_AR_Q14: words::word(words::seed_of(seed, 8), s),
-        Diff_Q14: words::word(words::seed_of(seed, 9), s),
-        Seed: words::word(words::seed_of(seed, 10), 0),
-        SeedInit: words::word(words::seed_of(seed, 11), s),
-        RD_Q10: words::word(words::seed_of(seed, 12), s),
+        sAR2_Q14: words::words24(seed, 7, s),
+        LF_AR_Q14: words::word_of(seed, 8, s),
+        Diff_Q14: words::word_of(seed, 9, s),
+        Seed: words::word_of(seed, 10, 0),
+        SeedInit: words::word_of(seed, 11, s),
+        RD_Q10: words::word_of(seed, 12, s),
     }
 }
 
@@ -37,16 +37,12 @@ pub fn paths_of(c: usize, seed: i32) -> [Path; 4] {
     paths(seed, settings::shift(c), settings::twins(c))
 }
 
-fn lpc_words(seed: i32, s: u32) -> [i32; 96] {
-    words::words96(words::seed_of(seed, 1), s)
-}
-
 pub fn lpc(seed: i32, s: u32, twins: bool) -> [[i32; 96]; 4] {
     [
-        lpc_words(own_seed(seed, 1, twins), s),
-        lpc_words(own_seed(seed, 2, twins), s),
-        lpc_words(own_seed(seed, 3, twins), s),
-        lpc_words(own_seed(seed, 4, twins), s),
+        words::words96(own_seed(seed, 1, twins), 1, s),
+        words::words96(own_seed(seed, 2, twins), 1, s),
+        words::words96(own_seed(seed, 3, twins), 1, s),
+        words::words96(own_seed(seed, 4, twins), 1, s),
     ]
 }
 
@@ -54,11 +50,11 @@ pub fn lpc(seed: i32, s: u32, twins: bool) -> [[i32; 96]; 4] {
 fn rings_of(seed: i32, own: i32, s: u32) -> [[i32; 40]; 5] {
     let states = if s > 0 { 31 } else { 0 };
     [
-        words::words40(words::seed_of(seed, 2), states),
-        words::words40(words::seed_of(seed, 3), s),
-        words::words40(words::seed_of(seed, 4), s),
-        words::words40(words::seed_of(seed, 5), s),
-        words::words40(words::seed_of(own, 6), s),
+        words::words40(seed, 2, states),
+        words::words40(seed, 3, s),
+        words::words40(seed, 4, s),
+        words::words40(seed, 5, s),
+        words::words40(own, 6, s),
     ]
 }
 

@@ -139,6 +139,11 @@ fn buf(c: usize, l: usize, base: usize) -> usize
     4 * l + base
 }
 
+// Word number `by` of subframe c.
+fn setting(c: usize, seed: i32, by: i32) -> i32 {
+    words::word_of(seed, by, shift(c))
+}
+
 pub fn fix(c: usize, seed: i32, inv_gain_Q26: i32) -> Fix
     requires { ⌜ c < 384 ⌝ }
 {
@@ -152,9 +157,9 @@ pub fn fix(c: usize, seed: i32, inv_gain_Q26: i32) -> Fix
         nStates: 1 + c % 4,
         voiced: voiced(c),
         offset_Q10: OFFSETS[c % 4],
-        Lambda_Q10: words::word(words::seed_of(seed, 14), shift(c)),
+        Lambda_Q10: setting(c, seed, 14),
         lag: lag,
-        LF_shp_Q14: words::word(words::seed_of(seed, 15), shift(c)),
+        LF_shp_Q14: setting(c, seed, 15),
         Gain_Q16: gain(c),
         inv_gain_Q26: inv_gain_Q26,
         decisionDelay: delay(c, lag),
@@ -166,12 +171,12 @@ pub fn fix(c: usize, seed: i32, inv_gain_Q26: i32) -> Fix
 
 pub fn halves(c: usize, seed: i32) -> Halves {
     Halves {
-        warping_Q16: words::word(words::seed_of(seed, 18), shift(c)),
-        Tilt_Q14: words::word(words::seed_of(seed, 16), shift(c)),
-        HarmShapeFIRPacked_Q14: words::word(words::seed_of(seed, 17), shift(c)),
+        warping_Q16: setting(c, seed, 18),
+        Tilt_Q14: setting(c, seed, 16),
+        HarmShapeFIRPacked_Q14: setting(c, seed, 17),
     }
 }
 
 pub fn ltp_scale(c: usize, seed: i32) -> i32 {
-    words::word(words::seed_of(seed, 19), shift(c))
+    setting(c, seed, 19)
 }

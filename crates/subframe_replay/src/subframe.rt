@@ -16,7 +16,7 @@ use scaling::scale;
 fn rewhiten(ltp: &mut [i32; 640], f: Fix, c: usize, seed: i32)
     requires { ⌜ Fits f × (c < 384) ⌝ }
 {
-    let sltp = words::halves640(words::seed_of(seed, 8), settings::half_shift(c));
+    let sltp = words::halves640(seed, 8, settings::half_shift(c));
     let inv = gains::inv_gain_Q31(settings::gain(c));
     if settings::number(c) == 0 {
         let scaled = gains::ltp_scaled_inv_gain(inv, settings::ltp_scale(c, seed));
@@ -90,10 +90,10 @@ fn quantised(
     ensures { λ r. ⌜ r .«smpl_buf_idx» < 40 ⌝ }
 {
     let h = settings::half_shift(c);
-    let x = words::halves320(words::seed_of(seed, 10), h);
-    let a = words::halves24(words::seed_of(seed, 11), h);
-    let b = words::halves24(words::seed_of(seed, 12), h);
-    let ar = words::halves24(words::seed_of(seed, 13), h);
+    let x = words::halves320(seed, 10, h);
+    let a = words::halves24(seed, 11, h);
+    let b = words::halves24(seed, 12, h);
+    let ar = words::halves24(seed, 13, h);
     let half = settings::halves(c, seed);
     subframe::silk_noise_shape_quantizer_del_dec(
         w,
@@ -131,10 +131,10 @@ fn run(c: usize, seed: i32, f: Fix)
     let twins = settings::twins(c);
     let mut lpc = rows::lpc(seed, s, twins);
     let mut ring = rows::rings(seed, s, twins);
-    let mut ltp = words::words640(words::seed_of(seed, 7), s);
-    let mut dgain = words::words40(words::seed_of(seed, 9), s);
-    let mut xq = words::halves640(words::seed_of(seed, 5), settings::half_shift(c));
-    let mut shp = words::words640(words::seed_of(seed, 6), s);
+    let mut ltp = words::words640(seed, 7, s);
+    let mut dgain = words::words40(seed, 9, s);
+    let mut xq = words::halves640(seed, 5, settings::half_shift(c));
+    let mut shp = words::words640(seed, 6, s);
     let mut pulses = words::no_pulses();
     let w = prepared(&mut lpc, &mut ring, &mut ltp, &mut shp, f, c, seed);
     let r = quantised(

@@ -9,7 +9,7 @@ pub fn seed_of(seed: i32, by: i32) -> i32 {
 }
 
 // A word of 32 - s bits; of all 32 bits the ends of the range and short words too.
-pub fn word(seed: i32, s: u32) -> i32 {
+fn word(seed: i32, s: u32) -> i32 {
     let any = generator::rand(seed);
     if s > 0 {
         return shift::shr32(any, s);
@@ -32,6 +32,11 @@ pub fn word(seed: i32, s: u32) -> i32 {
     }
 }
 
+// Word number `by`.
+pub fn word_of(seed: i32, by: i32, s: u32) -> i32 {
+    word(seed_of(seed, by), s)
+}
+
 // A word of 16 - s bits; of all 16 bits the ends of the range too.
 fn half(seed: i32, s: u32) -> i16 {
     let any = generator::rand(seed);
@@ -50,8 +55,9 @@ fn half(seed: i32, s: u32) -> i16 {
     }
 }
 
-fn fill(row: &mut [i32], seed: i32, s: u32) {
-    let mut at = seed;
+// Row number `by`.
+fn fill(row: &mut [i32], seed: i32, by: i32, s: u32) {
+    let mut at = seed_of(seed, by);
     let n = row.len();
     for i in 0..n {
         at = generator::rand(generator::rand(at));
@@ -59,8 +65,8 @@ fn fill(row: &mut [i32], seed: i32, s: u32) {
     }
 }
 
-fn fill_halves(row: &mut [i16], seed: i32, s: u32) {
-    let mut at = seed;
+fn fill_halves(row: &mut [i16], seed: i32, by: i32, s: u32) {
+    let mut at = seed_of(seed, by);
     let n = row.len();
     for i in 0..n {
         at = generator::rand(generator::rand(at));
@@ -68,45 +74,45 @@ fn fill_halves(row: &mut [i16], seed: i32, s: u32) {
     }
 }
 
-pub fn words24(seed: i32, s: u32) -> [i32; 24] {
+pub fn words24(seed: i32, by: i32, s: u32) -> [i32; 24] {
     let mut row = [0; 24];
-    fill(&mut row, seed, s);
+    fill(&mut row, seed, by, s);
     row
 }
 
-pub fn words40(seed: i32, s: u32) -> [i32; 40] {
+pub fn words40(seed: i32, by: i32, s: u32) -> [i32; 40] {
     let mut row = [0; 40];
-    fill(&mut row, seed, s);
+    fill(&mut row, seed, by, s);
     row
 }
 
-pub fn words96(seed: i32, s: u32) -> [i32; 96] {
+pub fn words96(seed: i32, by: i32, s: u32) -> [i32; 96] {
     let mut row = [0; 96];
-    fill(&mut row, seed, s);
+    fill(&mut row, seed, by, s);
     row
 }
 
-pub fn words640(seed: i32, s: u32) -> [i32; 640] {
+pub fn words640(seed: i32, by: i32, s: u32) -> [i32; 640] {
     let mut row = [0; 640];
-    fill(&mut row, seed, s);
+    fill(&mut row, seed, by, s);
     row
 }
 
-pub fn halves24(seed: i32, s: u32) -> [i16; 24] {
+pub fn halves24(seed: i32, by: i32, s: u32) -> [i16; 24] {
     let mut row = [0; 24];
-    fill_halves(&mut row, seed, s);
+    fill_halves(&mut row, seed, by, s);
     row
 }
 
-pub fn halves320(seed: i32, s: u32) -> [i16; 320] {
+pub fn halves320(seed: i32, by: i32, s: u32) -> [i16; 320] {
     let mut row = [0; 320];
-    fill_halves(&mut row, seed, s);
+    fill_halves(&mut row, seed, by, s);
     row
 }
 
-pub fn halves640(seed: i32, s: u32) -> [i16; 640] {
+pub fn halves640(seed: i32, by: i32, s: u32) -> [i16; 640] {
     let mut row = [0; 640];
-    fill_halves(&mut row, seed, s);
+    fill_halves(&mut row, seed, by, s);
     row
 }
 

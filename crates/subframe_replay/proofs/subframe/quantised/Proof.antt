@@ -11,26 +11,14 @@ enough a b h k = omega arith
 half-shift-requires : tie.Need-half-shift-requires
 half-shift-requires c κs = search needs
 
-seed-of-requires : tie.Need-seed-of-requires
-seed-of-requires c κs = search needs
-
 halves320-requires : tie.Need-halves320-requires
 halves320-requires c κs = search needs
-
-seed-of-requires-2 : tie.Need-seed-of-requires-2
-seed-of-requires-2 c κs = search needs
 
 halves24-requires : tie.Need-halves24-requires
 halves24-requires c κs = search needs
 
-seed-of-requires-3 : tie.Need-seed-of-requires-3
-seed-of-requires-3 c κs = search needs
-
 halves24-requires-2 : tie.Need-halves24-requires-2
 halves24-requires-2 c κs = search needs
-
-seed-of-requires-4 : tie.Need-seed-of-requires-4
-seed-of-requires-4 c κs = search needs
 
 halves24-requires-3 : tie.Need-halves24-requires-3
 halves24-requires-3 c κs = search needs
@@ -57,8 +45,8 @@ slice-aggregate-silk-noise-shape-quantizer-del-dec-4 c = search needs
 silk-noise-shape-quantizer-del-dec-requires : tie.Need-silk-noise-shape-quantizer-del-dec-requires
 silk-noise-shape-quantizer-del-dec-requires c κs =
     let q = c .before .before .before .before .before .before .before .before .before .before .before in
-    let x = q .before .before .before .before .before .before .before .halves320 in
-    let p = q .before .before .before .before .before .before .before .before .before .before .pre in
+    let x = q .before .before .before .before .halves320 in
+    let p = q .before .before .before .before .before .before .pre in
     ((p .0, p .1), ((omega arith, omega arith), (omega arith, (enough _ _ (p .0 .frame) (omega (arith, x .ok)), enough _ _ (p .0 .frame) (omega arith)))))
 
 returns : tie.Need-returns
@@ -69,13 +57,9 @@ quantised-spec =
     tie.close
     (tie.spec
     half-shift-requires
-    seed-of-requires
     halves320-requires
-    seed-of-requires-2
     halves24-requires
-    seed-of-requires-3
     halves24-requires-2
-    seed-of-requires-4
     halves24-requires-3
     halves-requires
     slice-aggregate-silk-noise-shape-quantizer-del-dec

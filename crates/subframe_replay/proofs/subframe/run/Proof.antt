@@ -15,29 +15,17 @@ lpc-requires c κs = search needs
 rings-requires : tie.Need-rings-requires
 rings-requires c κs = search needs
 
-seed-of-requires : tie.Need-seed-of-requires
-seed-of-requires c κs = search needs
-
 words640-requires : tie.Need-words640-requires
 words640-requires c κs = search needs
 
-seed-of-requires-2 : tie.Need-seed-of-requires-2
-seed-of-requires-2 c κs = search needs
-
 words40-requires : tie.Need-words40-requires
 words40-requires c κs = search needs
-
-seed-of-requires-3 : tie.Need-seed-of-requires-3
-seed-of-requires-3 c κs = search needs
 
 half-shift-requires : tie.Need-half-shift-requires
 half-shift-requires c κs = search needs
 
 halves640-requires : tie.Need-halves640-requires
 halves640-requires c κs = search needs
-
-seed-of-requires-4 : tie.Need-seed-of-requires-4
-seed-of-requires-4 c κs = search needs
 
 words640-requires-2 : tie.Need-words640-requires-2
 words640-requires-2 c κs = search needs
@@ -51,7 +39,7 @@ prepared-requires c κs = search needs
 quantised-requires : tie.Need-quantised-requires
 quantised-requires c κs =
     let q = c .before .before .before .before .before .before .before in
-    (q .before .before .before .before .before .before .before .before .before .before .before .before .before .before .before .before .before .before .before .pre .0, q .prepared .ensures)
+    (q .before .before .before .before .before .before .before .before .before .before .before .before .before .before .before .pre .0, q .prepared .ensures)
 
 print-paths-requires : tie.Need-print-paths-requires
 print-paths-requires c κs = search needs
@@ -70,14 +58,10 @@ run-spec =
     twins-requires
     lpc-requires
     rings-requires
-    seed-of-requires
     words640-requires
-    seed-of-requires-2
     words40-requires
-    seed-of-requires-3
     half-shift-requires
     halves640-requires
-    seed-of-requires-4
     words640-requires-2
     no-pulses-requires
     prepared-requires
