@@ -7,41 +7,41 @@ use crate::copies;
 use silk::structs::NsqState;
 
 // The 640 samples of history.
-fn history(samples: &[i16], blank: [i16; 640]) -> [i16; 640]
+fn history(samples: &[i16]) -> [i16; 640]
     requires { ⌜ length (now samples) ≡ 640 ⌝ }
     ensures { λ r. ⌜ r ≡ now (samples .entry) ⌝ }
 {
-    let mut row = blank;
+    let mut row = [0; 640];
     copies::put16(&mut row, samples);
     row
 }
 
 // 640 words.
-fn words640(words: &[i32], blank: [i32; 640]) -> [i32; 640]
+fn words640(words: &[i32]) -> [i32; 640]
     requires { ⌜ length (now words) ≡ 640 ⌝ }
     ensures { λ r. ⌜ r ≡ now (words .entry) ⌝ }
 {
-    let mut row = blank;
+    let mut row = [0; 640];
     copies::put32(&mut row, words);
     row
 }
 
 // 96 words.
-fn words96(words: &[i32], blank: [i32; 96]) -> [i32; 96]
+fn words96(words: &[i32]) -> [i32; 96]
     requires { ⌜ length (now words) ≡ 96 ⌝ }
     ensures { λ r. ⌜ r ≡ now (words .entry) ⌝ }
 {
-    let mut row = blank;
+    let mut row = [0; 96];
     copies::put32(&mut row, words);
     row
 }
 
 // 24 words.
-fn words24(words: &[i32], blank: [i32; 24]) -> [i32; 24]
+fn words24(words: &[i32]) -> [i32; 24]
     requires { ⌜ length (now words) ≡ 24 ⌝ }
     ensures { λ r. ⌜ r ≡ now (words .entry) ⌝ }
 {
-    let mut row = blank;
+    let mut row = [0; 24];
     copies::put32(&mut row, words);
     row
 }
@@ -51,15 +51,10 @@ pub fn state_of(samples: &[i16], words: &[i32]) -> NsqState
     requires { ⌜ (length (now samples) ≡ 640) × (length (now words) ≡ 767) ⌝ }
     ensures { λ r. ⌜ r ≡ stateOf (now (samples .entry)) (now (words .entry)) ⌝ }
 {
-    let blank = NsqState::fresh();
-    let no_xq = blank.xq;
-    let no_shp = blank.sLTP_shp_Q14;
-    let no_lpc = blank.sLPC_Q14;
-    let no_ar2 = blank.sAR2_Q14;
-    let xq = history(samples, no_xq);
-    let shp = words640(&words[0..640], no_shp);
-    let lpc = words96(&words[640..736], no_lpc);
-    let ar2 = words24(&words[736..760], no_ar2);
+    let xq = history(samples);
+    let shp = words640(&words[0..640]);
+    let lpc = words96(&words[640..736]);
+    let ar2 = words24(&words[736..760]);
     NsqState {
         xq: xq,
         sLTP_shp_Q14: shp,

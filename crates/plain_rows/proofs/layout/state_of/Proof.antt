@@ -12,9 +12,6 @@ use Rattle.plain_rows.specs.Layout.{stateOf}
 use Rattle.plain_rows.proofs.layout.state_of.Statement.{statement}
 use Rattle.plain_rows.proofs.layout.state_of.Tie as tie
 
-fresh-requires : tie.Need-fresh-requires
-fresh-requires c κs = search needs
-
 history-requires : tie.Need-history-requires
 history-requires c κs = search needs
 
@@ -54,26 +51,26 @@ part-words24-end c = search needs
 words24-requires : tie.Need-words24-requires
 words24-requires c κs = search needs
 
-shared-slice-copy-out-t23 : tie.Need-shared-slice-copy-out-t23
-shared-slice-copy-out-t23 c = search needs
+shared-slice-copy-out-t18 : tie.Need-shared-slice-copy-out-t18
+shared-slice-copy-out-t18 c = search needs
 
-shared-slice-copy-out-t25 : tie.Need-shared-slice-copy-out-t25
-shared-slice-copy-out-t25 c = search needs
+shared-slice-copy-out-t20 : tie.Need-shared-slice-copy-out-t20
+shared-slice-copy-out-t20 c = search needs
 
-shared-slice-copy-out-t27 : tie.Need-shared-slice-copy-out-t27
-shared-slice-copy-out-t27 c = search needs
+shared-slice-copy-out-t22 : tie.Need-shared-slice-copy-out-t22
+shared-slice-copy-out-t22 c = search needs
 
-shared-slice-copy-out-t29 : tie.Need-shared-slice-copy-out-t29
-shared-slice-copy-out-t29 c = search needs
+shared-slice-copy-out-t24 : tie.Need-shared-slice-copy-out-t24
+shared-slice-copy-out-t24 c = search needs
 
-shared-slice-copy-out-t31 : tie.Need-shared-slice-copy-out-t31
-shared-slice-copy-out-t31 c = search needs
+shared-slice-copy-out-t26 : tie.Need-shared-slice-copy-out-t26
+shared-slice-copy-out-t26 c = search needs
 
-shared-slice-copy-out-t33 : tie.Need-shared-slice-copy-out-t33
-shared-slice-copy-out-t33 c = search needs
+shared-slice-copy-out-t28 : tie.Need-shared-slice-copy-out-t28
+shared-slice-copy-out-t28 c = search needs
 
-shared-slice-copy-out-t35 : tie.Need-shared-slice-copy-out-t35
-shared-slice-copy-out-t35 c = search needs
+shared-slice-copy-out-t30 : tie.Need-shared-slice-copy-out-t30
+shared-slice-copy-out-t30 c = search needs
 
 returns : tie.Need-returns
 unfolding stateOf
@@ -89,7 +86,7 @@ returns c =
     let w96 = w24 .before .before in
     let w640 = w96 .before .before in
     let hist = w640 .before .before in
-    let st = hist .before .before .before .before .before .before in
+    let st = hist .before in
     let words = now (st .args .words) in
     let given : (k : ℕ) → mag (word words k) < 2 ^ 31 → toZ w32 (ofZ w32 (word words k)) ≡ word words k = λ k h. back w32 (word words k) h in
     rw (
@@ -97,20 +94,19 @@ returns c =
       w640 .words640 .ensures,
       w96 .words96 .ensures,
       w24 .words24 .ensures,
-      given 760 (p0 .t23 .given),
-      given 761 (p1 .t25 .given),
-      given 762 (p2 .t27 .given),
-      given 763 (p3 .t29 .given),
-      given 764 (p4 .t31 .given),
-      given 765 (p5 .t33 .given),
-      given 766 (p6 .t35 .given),
+      given 760 (p0 .t18 .given),
+      given 761 (p1 .t20 .given),
+      given 762 (p2 .t22 .given),
+      given 763 (p3 .t24 .given),
+      given 764 (p4 .t26 .given),
+      given 765 (p5 .t28 .given),
+      given 766 (p6 .t30 .given),
     )
 
 pub state-of-spec : {M : Type 1} → statement M
 state-of-spec =
     tie.close
     (tie.spec
-    fresh-requires
     history-requires
     sub-words640
     part-words640-start
@@ -124,11 +120,11 @@ state-of-spec =
     part-words24-start
     part-words24-end
     words24-requires
-    shared-slice-copy-out-t23
-    shared-slice-copy-out-t25
-    shared-slice-copy-out-t27
-    shared-slice-copy-out-t29
-    shared-slice-copy-out-t31
-    shared-slice-copy-out-t33
-    shared-slice-copy-out-t35
+    shared-slice-copy-out-t18
+    shared-slice-copy-out-t20
+    shared-slice-copy-out-t22
+    shared-slice-copy-out-t24
+    shared-slice-copy-out-t26
+    shared-slice-copy-out-t28
+    shared-slice-copy-out-t30
     returns)
