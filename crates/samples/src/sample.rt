@@ -2,7 +2,7 @@
 ghost use mathlib.Core.Path.{_≡_};
 ghost use Prim.Native.Nat.{_+_, _<_, _≤_};
 ghost use lib.ListN.{length};
-ghost use Rattle.path.specs.Data.{paths};
+ghost use Rattle.path.specs.Data.{paths, ringAt};
 ghost use Rattle.steps.specs.Among.{keepsFirst};
 ghost use Rattle.steps.specs.Settled.{settledOf, leaving as leavingZ, settled as settledZ};
 ghost use Rattle.steps.specs.Sample.{sample as sampleZ};
@@ -21,6 +21,14 @@ use path::structs::XQ_Q14;
 use penalty::penalties;
 use winner::search;
 
+// A word of path w's ring f.
+fn ring_at(ring: &[[[i32; 40]; 5]; 4], w: usize, f: usize, at: usize) -> i32
+    requires { ⌜ (w < 4) × ((f < 5) × (at < 40)) ⌝ }
+    ensures { λ r. ⌜ r ≡ ringAt (now (ring .entry)) w f at ⌝ }
+{
+    ring[w][f][at]
+}
+
 // The words of path w at the place `last` leave, before every path takes its first candidate.
 fn leaving(
     ps: [Path; 4],
@@ -36,10 +44,10 @@ fn leaving(
     requires { ⌜ (n ≤ 4) × ((i < 80) × ((r < 40) × ((last < 40) × (w < 4)))) ⌝ }
     ensures { λ s. ⌜ settledOf s (now (lpc .exit)) (now (ring .exit)) ≡ leavingZ c n i r last w (paths ps (now (lpc .entry)) (now (ring .entry))) ⌝ }
 {
-    let q = ring[w][Q_Q10][last];
-    let xq = ring[w][XQ_Q14][last];
-    let pred = ring[w][PRED_Q15][last];
-    let shape = ring[w][SHAPE_Q14][last];
+    let q = ring_at(ring, w, Q_Q10, last);
+    let xq = ring_at(ring, w, XQ_Q14, last);
+    let pred = ring_at(ring, w, PRED_Q15, last);
+    let shape = ring_at(ring, w, SHAPE_Q14, last);
     let qs = each::taken_all(ps, lpc, ring, c, n, i, r);
     Sampled {
         ps: qs,
