@@ -1,10 +1,11 @@
 // The winner by running cost, the flush of its last samples, and the penalty of the others.
 ghost use mathlib.Core.Path.{_≡_};
 ghost use Prim.Native.Nat.{_+_, _-_, _<_, _≤_};
-ghost use lib.ListN.{length};
-ghost use mathlib.Core.List.{List};
+ghost use lib.ListN.{length, getD};
+ghost use mathlib.Core.List.{List, []};
 ghost use lib.IntN.{ℤ};
 ghost use Rattle.fixed.specs.Iter.{either};
+ghost use Rattle.fixed.specs.Row.{word};
 ghost use Rattle.steps.specs.Flush.{bestOf, raisedPath, otherPath, othersRaised, fitMiddle, fitLast, flushed as flushedZ, outs};
 use fixed::wrap;
 use noise::output;
@@ -62,6 +63,14 @@ pub fn others_raised(ps: [Path; 4], w: usize, n: usize) -> [Path; 4]
     qs
 }
 
+// A word of ring f.
+fn ring_at(ring: &[[i32; 40]; 5], f: usize, at: usize) -> i32
+    requires { ⌜ (f < 5) × (at < 40) ⌝ }
+    ensures { λ r. ⌜ r ≡ word (getD (now (ring .entry)) f []) at ⌝ }
+{
+    ring[f][at]
+}
+
 // A history sample of a flush: in the middle of the frame by the gain and 14, at its end by the gain >> 6 and 8.
 fn fitted(middle: bool, gain: i32, xq: i32) -> i16
     ensures { λ r. ⌜ r ≡ either middle (fitMiddle gain xq) (fitLast gain xq) ⌝ }
@@ -92,9 +101,9 @@ pub fn flushed(
     for i in 0..d {
         let last = (r + d - 1 - i) % 40;
         let p = g - d + i;
-        let x = ring[XQ_Q14][last];
-        let shape = ring[SHAPE_Q14][last];
-        let q = ring[Q_Q10][last];
+        let x = ring_at(&ring, XQ_Q14, last);
+        let shape = ring_at(&ring, SHAPE_Q14, last);
+        let q = ring_at(&ring, Q_Q10, last);
         xq[h + p] = fitted(middle, gain, x);
         shp[h + p] = shape;
         pulses[p] = output::pulse_of(q);

@@ -1,20 +1,17 @@
 -- `edges::ends::flushed` meets its contract. Assumes nothing.
 use mathlib.Core.Path.{_≡_, refl, ap, _∙_}
-use mathlib.Core.List.{[]}
-use Prim.Native.Nat.{ℕ, _+_, _≤_, _-_, _%_}
+use Prim.Native.Nat.{ℕ, _≤_, _-_}
 use native.Mathlib.Omega.{arith}
 use borrow.Author.Needs.{needs}
 use denote.Ref.{now}
 use lib.IntN.{ℤ}
-use lib.ListN.{getD, length, length-set}
+use lib.ListN.{length, length-set}
 use mir.Syntax.{w8, w16, w32}
 use mir.Val.{toZ}
 use Rattle.fixed.proofs.Fit.{back, read}
 use Rattle.fixed.specs.Iter.{iter, either}
 use Rattle.fixed.proofs.Iters.{iter-more}
 use Rattle.noise.specs.Output.{pulseOf}
-use Rattle.fixed.specs.Row.{word}
-use Rattle.path.specs.Data.{ringQ, ringXq, ringShape}
 use Rattle.steps.specs.Flush.{flushed, flushTurn, flushAt, outs, fitMiddle, fitLast}
 use Rattle.edges.proofs.ends.flushed.Statement.{statement}
 use Rattle.edges.proofs.ends.flushed.Tie as tie
@@ -45,41 +42,23 @@ sub-p c = search needs
 add-p : tie.Need-add-p Inv-loop μ-loop
 add-p c = search needs
 
-mul-x : tie.Need-mul-x Inv-loop μ-loop
-mul-x c = search needs
+ring-at-requires : tie.Need-ring-at-requires Inv-loop μ-loop
+ring-at-requires c κs = search needs
 
-index-1-x : tie.Need-index-1-x Inv-loop μ-loop
-index-1-x c = search needs
+ring-at-requires-2 : tie.Need-ring-at-requires-2 Inv-loop μ-loop
+ring-at-requires-2 c κs = search needs
 
-index-2-x : tie.Need-index-2-x Inv-loop μ-loop
-index-2-x c = search needs
-
-mul-shape : tie.Need-mul-shape Inv-loop μ-loop
-mul-shape c = search needs
-
-index-1-shape : tie.Need-index-1-shape Inv-loop μ-loop
-index-1-shape c = search needs
-
-index-2-shape : tie.Need-index-2-shape Inv-loop μ-loop
-index-2-shape c = search needs
-
-mul-q : tie.Need-mul-q Inv-loop μ-loop
-mul-q c = search needs
-
-index-1-q : tie.Need-index-1-q Inv-loop μ-loop
-index-1-q c = search needs
-
-index-2-q : tie.Need-index-2-q Inv-loop μ-loop
-index-2-q c = search needs
+ring-at-requires-3 : tie.Need-ring-at-requires-3 Inv-loop μ-loop
+ring-at-requires-3 c κs = search needs
 
 fitted-requires : tie.Need-fitted-requires Inv-loop μ-loop
 fitted-requires c κs = search needs
 
-add-t19 : tie.Need-add-t19 Inv-loop μ-loop
-add-t19 c = search needs
+add-t21 : tie.Need-add-t21 Inv-loop μ-loop
+add-t21 c = search needs
 
-mul-t20 : tie.Need-mul-t20 Inv-loop μ-loop
-mul-t20 c = search needs
+mul-t19 : tie.Need-mul-t19 Inv-loop μ-loop
+mul-t19 c = search needs
 
 element-set-from-xq : tie.Need-element-set-from-xq Inv-loop μ-loop
 element-set-from-xq c = search needs
@@ -87,8 +66,8 @@ element-set-from-xq c = search needs
 add-shape : tie.Need-add-shape Inv-loop μ-loop
 add-shape c = search needs
 
-mul-shape-2 : tie.Need-mul-shape-2 Inv-loop μ-loop
-mul-shape-2 c = search needs
+mul-shape : tie.Need-mul-shape Inv-loop μ-loop
+mul-shape c = search needs
 
 element-set-from-shape : tie.Need-element-set-from-shape Inv-loop μ-loop
 element-set-from-shape c = search needs
@@ -110,19 +89,21 @@ unfolding flushAt
 loop-again c =
     let ft = c .before in
     let q = ft .before in
-    let sh = q .before in
-    let x = sh .before in
-    let l = x .before .before in
+    let sh = q .before .before in
+    let x = sh .before .before in
+    let l = x .before .before .before in
     let st = l .before in
     let a = st .args in
     let o = l .loop in
     let f = read (st .fits .gain) in
-    let at : ℕ → ℤ = λ j. word (getD (a .t4) j []) ((a .r + a .d - 1 - o .i) % 40) in
-    let v1 = back w16 (ft .fitted .result) (ft .fitted .ok) ∙ rw (f, back w32 (at ringXq) (x .x .given)) at (ft .fitted .ensures) in
-    let v3 = back w8 (c .pulse-of .result) (c .pulse-of .ok) ∙ (c .pulse-of .ensures ∙ ap pulseOf (back w32 (at ringQ) (q .q .given))) in
+    let vx = back w32 (x .ring-at .result) (x .ring-at .ok) ∙ x .ring-at .ensures in
+    let vs = back w32 (sh .ring-at2 .result) (sh .ring-at2 .ok) ∙ sh .ring-at2 .ensures in
+    let vq = back w32 (q .ring-at3 .result) (q .ring-at3 .ok) ∙ q .ring-at3 .ensures in
+    let v1 = back w16 (ft .fitted .result) (ft .fitted .ok) ∙ rw (f, vx) at (ft .fitted .ensures) in
+    let v3 = back w8 (c .pulse-of .result) (c .pulse-of .ok) ∙ (c .pulse-of .ensures ∙ ap pulseOf vq) in
     let fit : ℤ → ℤ = λ v. either (a .middle) (fitMiddle (a .gain) v) (fitLast (a .gain) v) in (
-      (omega (arith, x .before .loop-test .taken), simp length-set (o .inv .0 .1)),
-      simp (v1, back w32 (at ringShape) (sh .shape .given), v3, f)
+      (omega (arith, x .before .before .loop-test .taken), simp length-set (o .inv .0 .1)),
+      simp (v1, vs, v3, f)
           (iter-more (flushTurn (a .h) (a .t4) fit (a .d) (a .g) (a .r)) _ (outs (o .xq) (o .shp) (o .pulses)) _ (simp f at (o .inv .1))),
     )
 
@@ -151,21 +132,15 @@ flushed-spec =
     sub-last-2
     sub-p
     add-p
-    mul-x
-    index-1-x
-    index-2-x
-    mul-shape
-    index-1-shape
-    index-2-shape
-    mul-q
-    index-1-q
-    index-2-q
+    ring-at-requires
+    ring-at-requires-2
+    ring-at-requires-3
     fitted-requires
-    add-t19
-    mul-t20
+    add-t21
+    mul-t19
     element-set-from-xq
     add-shape
-    mul-shape-2
+    mul-shape
     element-set-from-shape
     pulse-of-requires
     slice-set-from-pulses
