@@ -76,9 +76,9 @@ fn fitted(middle: bool, gain: i32, xq: i32) -> i16
     ensures { λ r. ⌜ r ≡ either middle (fitMiddle gain xq) (fitLast gain xq) ⌝ }
 {
     if middle {
-        return output::xq_out14(xq, gain);
+        return output::xq_out(xq, gain, 14);
     }
-    output::xq_out8(xq, shift::shr32(gain, 6))
+    output::xq_out(xq, shift::shr32(gain, 6), 8)
 }
 
 // The winner's last d samples handed out, when g samples of the frame are done: h is where the frame starts in the histories,

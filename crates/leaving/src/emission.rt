@@ -45,7 +45,7 @@ pub fn emit(
         let p = f.base + i - d;
         let at = 4 * f.subfr_length + p;
         ltp[f.buf + i - d] = pred;
-        xq[at] = output::xq_out8(sample, g);
+        xq[at] = output::xq_out(sample, g, 8);
         shp[at] = shape;
         pulses[p] = output::pulse_of(level);
     }

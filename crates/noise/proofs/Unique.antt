@@ -5,8 +5,7 @@ use Rattle.noise.proofs.noise_terms.n_AR.Reads as n-AR
 use Rattle.noise.proofs.noise_terms.n_LF.Reads as n-LF
 use Rattle.noise.proofs.residual.residual.Reads as residual
 use Rattle.noise.proofs.output.pulse_of.Reads as pulse-of
-use Rattle.noise.proofs.output.xq_out8.Reads as xq-out8
-use Rattle.noise.proofs.output.xq_out14.Reads as xq-out14
+use Rattle.noise.proofs.output.xq_out.Reads as xq-out
 
 pub n-AR-unique : (κs a r s e : _) → n-AR.Post κs a r e → n-AR.Post κs a s e → r ≡ s
 n-AR-unique κs a r s e p q = p ∙ sym q
@@ -20,8 +19,5 @@ residual-unique κs a r s e p q = p ∙ sym q
 pub pulse-of-unique : (κs a r s e : _) → pulse-of.Post κs a r e → pulse-of.Post κs a s e → r ≡ s
 pulse-of-unique κs a r s e p q = p ∙ sym q
 
-pub xq-out8-unique : (κs a r s e : _) → xq-out8.Post κs a r e → xq-out8.Post κs a s e → r ≡ s
-xq-out8-unique κs a r s e p q = p ∙ sym q
-
-pub xq-out14-unique : (κs a r s e : _) → xq-out14.Post κs a r e → xq-out14.Post κs a s e → r ≡ s
-xq-out14-unique κs a r s e p q = p ∙ sym q
+pub xq-out-unique : (κs a r s e : _) → xq-out.Post κs a r e → xq-out.Post κs a s e → r ≡ s
+xq-out-unique κs a r s e p q = p ∙ sym q

@@ -33,8 +33,8 @@ fn of_words(function: usize, a: i32) -> i32 {
         6 => terms::harm_shape_packed(x),
         8 => residual_of(x, y, c),
         9 => bits::wide8(output::pulse_of(words::level(a))),
-        10 => bits::wide16(output::xq_out8(x, y)),
-        _ => bits::wide16(output::xq_out14(x, y)),
+        10 => bits::wide16(output::xq_out(x, y, 8)),
+        _ => bits::wide16(output::xq_out(x, y, 14)),
     }
 }
 

@@ -7,21 +7,21 @@ use Rattle.steps.specs.Flush.{fitMiddle, fitLast}
 use Rattle.edges.proofs.ends.fitted.Statement.{statement}
 use Rattle.edges.proofs.ends.fitted.Tie as tie
 
-xq-out14-requires : tie.Need-xq-out14-requires
-xq-out14-requires c κs = search needs
+xq-out-requires : tie.Need-xq-out-requires
+xq-out-requires c κs = search needs
 
 returns : tie.Need-returns
 unfolding fitMiddle fitLast
 returns c =
     let t = c .before in
     let f = t .before .fits in
-    rw (t .if1 .taken) (back w16 (c .xq-out14 .result) (c .xq-out14 .ok) ∙ rw (read (f .xq), read (f .gain)) at (c .xq-out14 .ensures))
+    rw (t .if1 .taken) (back w16 (c .xq-out .result) (c .xq-out .ok) ∙ rw (read (f .xq), read (f .gain)) at (c .xq-out .ensures))
 
 shr32-requires : tie.Need-shr32-requires
 shr32-requires c κs = search needs
 
-xq-out8-requires : tie.Need-xq-out8-requires
-xq-out8-requires c κs = search needs
+xq-out-requires-2 : tie.Need-xq-out-requires-2
+xq-out-requires-2 c κs = search needs
 
 returns-2 : tie.Need-returns-2
 unfolding fitMiddle fitLast
@@ -30,8 +30,8 @@ returns-2 c =
     let t = s .before in
     let f = t .before .fits in
     let g = got32 (s .shr32 .result) (s .shr32 .ok) ∙ rw (read (f .gain)) at (s .shr32 .ensures) in
-    rw (t .if1 .left) (back w16 (c .xq-out8 .result) (c .xq-out8 .ok) ∙ rw (read (f .xq), g) at (c .xq-out8 .ensures))
+    rw (t .if1 .left) (back w16 (c .xq-out2 .result) (c .xq-out2 .ok) ∙ rw (read (f .xq), g) at (c .xq-out2 .ensures))
 
 pub fitted-spec : {M : Type 1} → statement M
 fitted-spec =
-    tie.close (tie.spec xq-out14-requires returns shr32-requires xq-out8-requires returns-2)
+    tie.close (tie.spec xq-out-requires returns shr32-requires xq-out-requires-2 returns-2)

@@ -38,8 +38,8 @@ mul-pred c = search needs
 element-set-from-pred : tie.Need-element-set-from-pred
 element-set-from-pred c = search needs
 
-xq-out8-requires : tie.Need-xq-out8-requires
-xq-out8-requires c κs = search needs
+xq-out-requires : tie.Need-xq-out-requires
+xq-out-requires c κs = search needs
 
 mul-t17 : tie.Need-mul-t17
 mul-t17 c = search needs
@@ -69,7 +69,7 @@ returns c =
     let l = t .before in
     let f = l .before .fits in
     let e = sym (l .leaves .ensures) ∙ t .if1 .taken in
-    let v = back w16 (x .xq-out8 .result) (x .xq-out8 .ok) ∙ rw (read (f .sample), read (f .g)) at (x .xq-out8 .ensures) in
+    let v = back w16 (x .xq-out .result) (x .xq-out .ok) ∙ rw (read (f .sample), read (f .g)) at (x .xq-out .ensures) in
     let p = back w8 (c .pulse-of .result) (c .pulse-of .ok) ∙ rw (read (f .level)) at (c .pulse-of .ensures) in
     (rw e (simp (read (f .pred))), (rw e (simp v), (rw e (simp (read (f .shape))), rw e (simp p))))
 
@@ -89,7 +89,7 @@ emit-spec =
     sub-pred
     mul-pred
     element-set-from-pred
-    xq-out8-requires
+    xq-out-requires
     mul-t17
     element-set-from-xq
     mul-shape
