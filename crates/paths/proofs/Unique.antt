@@ -3,8 +3,42 @@
 use mathlib.Core.Path.{_≡_, sym, _∙_, ap}
 use denote.Ref.{now}
 use Rattle.path.proofs.Parts.{common-parts}
+use Rattle.path.specs.declared.structs.Sampled.{Sampled}
 use Rattle.path.specs.Data.{Running}
+use Rattle.steps.specs.Settled.{Settled}
+use Rattle.paths.proofs.common.common.Reads as common
+use Rattle.paths.proofs.sample.sample.Reads as sample
+use Rattle.paths.proofs.turn.turn.Reads as turn
 use Rattle.paths.proofs.subframe.silk_noise_shape_quantizer_del_dec.Reads as del-dec
+
+pub common-unique : (κs a r s e : _) → common.Post κs a r e → common.Post κs a s e → r ≡ s
+common-unique κs a r s e p q = p ∙ sym q
+
+-- the code's struct
+abbrev sampledOf : Settled → Sampled
+sampledOf t =
+    record { ps = t .ps .owns; «Q_Q10» = t .«Q_Q10»; «Xq_Q14» = t .«Xq_Q14»; «Pred_Q15» = t .«Pred_Q15»; «Shape_Q14» = t .«Shape_Q14» }
+
+-- what the sample leaves, the LPC words and the rings at exit
+pub sample-unique : (κs a r s e f : _) → sample.Post κs a r e → sample.Post κs a s f →
+    (r ≡ s) × (now (e .1 .0) ≡ now (f .1 .0)) × (now (e .1 .1 .0) ≡ now (f .1 .1 .0))
+sample-unique κs a r s e f p q =
+    let same = p ∙ sym q in
+    (ap sampledOf same, ap (λ (t : Settled). t .ps .lpcs) same, ap (λ (t : Settled). t .ps .rings) same)
+
+-- the result and the seven rows at exit
+pub turn-unique : (κs a r s e f : _) → turn.Post κs a r e → turn.Post κs a s f →
+    ((r ≡ s) × (now (e .1 .0) ≡ now (f .1 .0)) × (now (e .1 .1 .0) ≡ now (f .1 .1 .0)) × (now (e .1 .1 .1 .0) ≡ now (f .1 .1 .1 .0))) ×
+    (now (e .1 .1 .1 .1 .0) ≡ now (f .1 .1 .1 .1 .0)) × (now (e .1 .1 .1 .1 .1 .0) ≡ now (f .1 .1 .1 .1 .1 .0)) ×
+    (now (e .1 .1 .1 .1 .1 .1 .0) ≡ now (f .1 .1 .1 .1 .1 .1 .0)) × (now (e .1 .1 .1 .1 .1 .1 .1 .0) ≡ now (f .1 .1 .1 .1 .1 .1 .1 .0))
+turn-unique κs a r s e f p q =
+    let same = p .0 ∙ sym (q .0) in (
+      common-parts same,
+      ap (λ (t : Running). t .core .«delayedGain_Q10») same,
+      ap (λ (t : Running). t .xq) same,
+      ap (λ (t : Running). t .«sLTP_shp_Q14») same,
+      ap (λ (t : Running). t .pulses) same,
+    )
 
 -- the result and the seven rows at exit
 pub silk-noise-shape-quantizer-del-dec-unique : (κs a r s e f : _) → del-dec.Post κs a r e → del-dec.Post κs a s f →

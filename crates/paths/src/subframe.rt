@@ -6,10 +6,10 @@ ghost use Rattle.path.specs.Data.{rows, running};
 ghost use Rattle.steps.specs.Among.{keepsFirst};
 ghost use Rattle.steps.specs.Subframe.{backed, backs as backsZ, subframe as subframeZ};
 ghost use Rattle.places.specs.Places.{Fits};
+use crate::turn;
 use path::structs::Fix;
 use path::structs::Halves;
 use path::structs::Work;
-use turns::turn;
 
 // The last 16 LPC words of a path, behind l samples, move to the front.
 fn moved_back(w: &mut [i32; 96], l: usize)

@@ -1,3 +1,0 @@
--- Turns: a turn in two steps. Unique: each contract leaves one outcome.
-pub mod Turns
-pub mod Unique
