@@ -14,7 +14,7 @@ ghost use Rattle.steps.specs.Begin.{zeroPath, begun};
 ghost use Rattle.steps.specs.Call.{callOf, Sound, Stocked};
 ghost use Rattle.steps.specs.Frame.{framedOf, runBy, doneOf, endedBy, frame as frameZ};
 ghost use Rattle.steps.specs.Sizes.{sizesOf};
-use beginning::begin;
+use calls::begin;
 use calls::call;
 use closing::end;
 use closing::end::Handed;

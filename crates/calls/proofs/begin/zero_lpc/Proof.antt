@@ -1,8 +1,8 @@
--- `beginning::begin::zero_lpc` meets its contract. Assumes nothing.
+-- `calls::begin::zero_lpc` meets its contract. Assumes nothing.
 use borrow.Author.Needs.{needs}
 use Rattle.silk.specs.State.{zeros}
-use Rattle.beginning.proofs.begin.zero_lpc.Statement.{statement}
-use Rattle.beginning.proofs.begin.zero_lpc.Tie as tie
+use Rattle.calls.proofs.begin.zero_lpc.Statement.{statement}
+use Rattle.calls.proofs.begin.zero_lpc.Tie as tie
 
 returns : tie.Need-returns
 unfolding zeros

@@ -1,4 +1,4 @@
--- `beginning::begin::start_paths` meets its contract. Assumes nothing.
+-- `calls::begin::start_paths` meets its contract. Assumes nothing.
 use mathlib.Core.Path.{_≡_, refl, ap, _∙_}
 use Prim.Native.Nat.{_≤_, _-_}
 use native.Mathlib.Omega.{arith}
@@ -10,8 +10,8 @@ use Rattle.fixed.specs.Iter.{iter}
 use Rattle.fixed.proofs.Iters.{iter-more}
 use Rattle.path.specs.Data.{paths}
 use Rattle.steps.specs.Begin.{begun, beginTurn}
-use Rattle.beginning.proofs.begin.start_paths.Statement.{statement}
-use Rattle.beginning.proofs.begin.start_paths.Tie as tie
+use Rattle.calls.proofs.begin.start_paths.Statement.{statement}
+use Rattle.calls.proofs.begin.start_paths.Tie as tie
 
 abbrev Inv-loop : tie.InvT-loop
 Inv-loop ar2 lf diff shape seed n lpcs₀ rings₀ row ring qs₀ k₀ lpcs rings qs k =

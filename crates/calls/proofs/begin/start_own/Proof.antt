@@ -1,4 +1,4 @@
--- `beginning::begin::start_own` meets its contract. Assumes nothing.
+-- `calls::begin::start_own` meets its contract. Assumes nothing.
 use Prim.Native.Nat.{_+_, _%_, _<_, _^_}
 use native.Mathlib.Omega.{arith}
 use borrow.Author.Needs.{needs}
@@ -6,8 +6,8 @@ use mir.Syntax.{w32}
 use mir.Facts.{toZ-pos}
 use Rattle.fixed.proofs.Fit.{read}
 use Rattle.steps.specs.Begin.{ownFrom}
-use Rattle.beginning.proofs.begin.start_own.Statement.{statement}
-use Rattle.beginning.proofs.begin.start_own.Tie as tie
+use Rattle.calls.proofs.begin.start_own.Statement.{statement}
+use Rattle.calls.proofs.begin.start_own.Tie as tie
 
 add-s : tie.Need-add-s
 add-s c = search needs

@@ -1,9 +1,9 @@
--- `beginning::begin::zero_lpcs` meets its contract. Assumes nothing.
+-- `calls::begin::zero_lpcs` meets its contract. Assumes nothing.
 use borrow.Author.Needs.{needs}
 use Rattle.silk.specs.State.{zeros}
 use Rattle.steps.specs.Begin.{zeroLpcs}
-use Rattle.beginning.proofs.begin.zero_lpcs.Statement.{statement}
-use Rattle.beginning.proofs.begin.zero_lpcs.Tie as tie
+use Rattle.calls.proofs.begin.zero_lpcs.Statement.{statement}
+use Rattle.calls.proofs.begin.zero_lpcs.Tie as tie
 
 returns : tie.Need-returns
 unfolding zeroLpcs zeros

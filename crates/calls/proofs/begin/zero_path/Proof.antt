@@ -1,9 +1,9 @@
--- `beginning::begin::zero_path` meets its contract. Assumes nothing.
+-- `calls::begin::zero_path` meets its contract. Assumes nothing.
 use borrow.Author.Needs.{needs}
 use Rattle.silk.specs.State.{zeros}
 use Rattle.steps.specs.Begin.{zeroPath}
-use Rattle.beginning.proofs.begin.zero_path.Statement.{statement}
-use Rattle.beginning.proofs.begin.zero_path.Tie as tie
+use Rattle.calls.proofs.begin.zero_path.Statement.{statement}
+use Rattle.calls.proofs.begin.zero_path.Tie as tie
 
 returns : tie.Need-returns
 unfolding zeroPath zeros

@@ -1,4 +1,4 @@
--- `beginning::begin::start_lpc` meets its contract. Assumes nothing.
+-- `calls::begin::start_lpc` meets its contract. Assumes nothing.
 use mathlib.Core.Path.{_≡_}
 use Prim.Native.Nat.{_≤_, _-_}
 use native.Mathlib.Omega.{arith}
@@ -10,8 +10,8 @@ use Rattle.fixed.proofs.Fit.{back}
 use Rattle.fixed.specs.Iter.{iter}
 use Rattle.fixed.proofs.Iters.{iter-more}
 use Rattle.steps.specs.Begin.{startLpc, copyTurn}
-use Rattle.beginning.proofs.begin.start_lpc.Statement.{statement}
-use Rattle.beginning.proofs.begin.start_lpc.Tie as tie
+use Rattle.calls.proofs.begin.start_lpc.Statement.{statement}
+use Rattle.calls.proofs.begin.start_lpc.Tie as tie
 
 abbrev Inv-loop : tie.InvT-loop
 Inv-loop lpc row₀ j₀ row j = (j ≤ 16) × (row ≡ iter (copyTurn lpc) j row₀)

@@ -1,9 +1,9 @@
--- `beginning::begin::zero_rings` meets its contract. Assumes nothing.
+-- `calls::begin::zero_rings` meets its contract. Assumes nothing.
 use borrow.Author.Needs.{needs}
 use Rattle.silk.specs.State.{zeros}
 use Rattle.steps.specs.Begin.{zeroRings}
-use Rattle.beginning.proofs.begin.zero_rings.Statement.{statement}
-use Rattle.beginning.proofs.begin.zero_rings.Tie as tie
+use Rattle.calls.proofs.begin.zero_rings.Statement.{statement}
+use Rattle.calls.proofs.begin.zero_rings.Tie as tie
 
 returns : tie.Need-returns
 unfolding zeroRings zeros

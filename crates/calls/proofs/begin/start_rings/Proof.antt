@@ -1,9 +1,9 @@
--- `beginning::begin::start_rings` meets its contract. Assumes nothing.
+-- `calls::begin::start_rings` meets its contract. Assumes nothing.
 use borrow.Author.Needs.{needs}
 use Rattle.fixed.proofs.Fit.{read}
 use Rattle.steps.specs.Begin.{startRings}
-use Rattle.beginning.proofs.begin.start_rings.Statement.{statement}
-use Rattle.beginning.proofs.begin.start_rings.Tie as tie
+use Rattle.calls.proofs.begin.start_rings.Statement.{statement}
+use Rattle.calls.proofs.begin.start_rings.Tie as tie
 
 zero-gain-requires : tie.Need-zero-gain-requires
 zero-gain-requires c κs = search needs

@@ -1,2 +1,0 @@
--- Unique: each contract leaves one outcome.
-pub mod Unique
