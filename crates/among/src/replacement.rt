@@ -39,7 +39,7 @@ fn kept_words(own: [i32; 96], by: [i32; 96], i: usize) -> [i32; 96]
 
 // The paths after the replacement, if there is one.
 pub fn replaced(
-    ps: [Path; 4],
+    mut ps: [Path; 4],
     lpc: &mut [[i32; 96]; 4],
     ring: &mut [[[i32; 40]; 5]; 4],
     s: Swap,
@@ -48,12 +48,11 @@ pub fn replaced(
     requires { ⌜ (s .to < 4) × ((s .by < 4) × (i ≤ 96)) ⌝ }
     ensures { λ q. ⌜ paths q (now (lpc .exit)) (now (ring .exit)) ≡ replacedZ keepsFirst s i (paths ps (now (lpc .entry)) (now (ring .entry))) ⌝ }
 {
-    let mut qs = ps;
     if s.yes {
         let to = s.to;
         let by = s.by;
-        let p = qs[by];
-        qs[to] = p;
+        let p = ps[by];
+        ps[to] = p;
         let own = lpc[to];
         let other = lpc[by];
         let row = kept_words(own, other, i);
@@ -61,21 +60,20 @@ pub fn replaced(
         let rings = ring[by];
         ring[to] = rings;
     }
-    qs
+    ps
 }
 
 // The candidates after it: the cheaper second one is now the replaced path's first.
-pub fn moved_over(c: [[Candidate; 2]; 4], s: Swap) -> [[Candidate; 2]; 4]
+pub fn moved_over(mut c: [[Candidate; 2]; 4], s: Swap) -> [[Candidate; 2]; 4]
     requires { ⌜ (s .to < 4) × (s .by < 4) ⌝ }
     ensures { λ r. ⌜ r ≡ movedOver c s ⌝ }
 {
-    let mut d = c;
     if s.yes {
         let to = s.to;
         let by = s.by;
-        let first = d[by][1];
-        let second = d[to][1];
-        d[to] = [first, second];
+        let first = c[by][1];
+        let second = c[to][1];
+        c[to] = [first, second];
     }
-    d
+    c
 }

@@ -59,7 +59,7 @@ pub fn pairs(
 
 // Each of the n paths takes its first candidate.
 pub fn taken_all(
-    ps: [Path; 4],
+    mut ps: [Path; 4],
     lpc: &mut [[i32; 96]; 4],
     ring: &mut [[[i32; 40]; 5]; 4],
     c: [[Candidate; 2]; 4],
@@ -70,11 +70,10 @@ pub fn taken_all(
     requires { ⌜ (n ≤ 4) × ((16 + i < 96) × (r < 40)) ⌝ }
     ensures { λ s. ⌜ paths s (now (lpc .exit)) (now (ring .exit)) ≡ takenAll c n i r (paths ps (now (lpc .entry)) (now (ring .entry))) ⌝ }
 {
-    let mut qs = ps;
     for k in 0..n {
-        let p = qs[k];
+        let p = ps[k];
         let first = c[k][0];
-        qs[k] = p.taken(&mut lpc[k], &mut ring[k], first, i, r);
+        ps[k] = p.taken(&mut lpc[k], &mut ring[k], first, i, r);
     }
-    qs
+    ps
 }

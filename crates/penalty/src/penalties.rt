@@ -19,7 +19,7 @@ fn raised_unless(row: [Candidate; 2], state: i32, mark: i32) -> [Candidate; 2]
 
 // The candidates with the penalties, where path w won and `last` is the ring's place at the decision delay.
 pub fn penalised(
-    c: [[Candidate; 2]; 4],
+    mut c: [[Candidate; 2]; 4],
     ring: &[[[i32; 40]; 5]; 4],
     n: usize,
     w: usize,
@@ -28,12 +28,11 @@ pub fn penalised(
     requires { ⌜ (n ≤ 4) × ((w < 4) × (last < 40)) ⌝ }
     ensures { λ d. ⌜ d ≡ penalisedZ c (now (ring .entry)) n w last ⌝ }
 {
-    let mut d = c;
     let mark = ring[w][RAND_STATE][last];
     for k in 0..n {
         let state = ring[k][RAND_STATE][last];
-        let row = d[k];
-        d[k] = raised_unless(row, state, mark);
+        let row = c[k];
+        c[k] = raised_unless(row, state, mark);
     }
-    d
+    c
 }

@@ -22,11 +22,11 @@ index-1-second c = search needs
 index-2-second : tie.Need-index-2-second
 index-2-second c = search needs
 
-mul-d : tie.Need-mul-d
-mul-d c = search needs
+mul-c : tie.Need-mul-c
+mul-c c = search needs
 
-array-set-from-d : tie.Need-array-set-from-d
-array-set-from-d c = search needs
+array-set-from-c : tie.Need-array-set-from-c
+array-set-from-c c = search needs
 
 returns : tie.Need-returns
 unfolding movedOver
@@ -46,7 +46,7 @@ moved-over-spec =
     mul-second
     index-1-second
     index-2-second
-    mul-d
-    array-set-from-d
+    mul-c
+    array-set-from-c
     returns
     returns-2)

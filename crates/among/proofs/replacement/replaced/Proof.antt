@@ -10,11 +10,11 @@ mul-p c = search needs
 array-copy-out-p : tie.Need-array-copy-out-p
 array-copy-out-p c = search needs
 
-mul-qs : tie.Need-mul-qs
-mul-qs c = search needs
+mul-ps : tie.Need-mul-ps
+mul-ps c = search needs
 
-array-set-from-qs : tie.Need-array-set-from-qs
-array-set-from-qs c = search needs
+array-set-from-ps : tie.Need-array-set-from-ps
+array-set-from-ps c = search needs
 
 mul-own : tie.Need-mul-own
 mul-own c = search needs
@@ -64,8 +64,8 @@ replaced-spec =
     (tie.spec
     mul-p
     array-copy-out-p
-    mul-qs
-    array-set-from-qs
+    mul-ps
+    array-set-from-ps
     mul-own
     element-copy-out-own
     mul-other

@@ -12,10 +12,10 @@ use Rattle.paths.proofs.each.taken_all.Statement.{statement}
 use Rattle.paths.proofs.each.taken_all.Tie as tie
 
 abbrev Inv-loop : tie.InvT-loop
-Inv-loop lpc₀ ring₀ n i r c qs₀ k₀ lpc ring qs k = (k ≤ n) × (paths qs lpc ring ≡ iter (takeTurn c i r) k (paths qs₀ lpc₀ ring₀))
+Inv-loop lpc₀ ring₀ n i r ps₀ c k₀ lpc ring ps k = (k ≤ n) × (paths ps lpc ring ≡ iter (takeTurn c i r) k (paths ps₀ lpc₀ ring₀))
 
 abbrev μ-loop : tie.MeasureT-loop
-μ-loop lpc₀ ring₀ n i r c qs₀ k₀ lpc ring qs k = n - k
+μ-loop lpc₀ ring₀ n i r ps₀ c k₀ lpc ring ps k = n - k
 
 loop-holds : tie.Need-loop-holds Inv-loop μ-loop
 loop-holds c = (search needs, refl)
@@ -50,11 +50,11 @@ index-1-taken-2 c = search needs
 taken-requires : tie.Need-taken-requires Inv-loop μ-loop
 taken-requires c κs = search needs
 
-mul-qs : tie.Need-mul-qs Inv-loop μ-loop
-mul-qs c = search needs
+mul-ps : tie.Need-mul-ps Inv-loop μ-loop
+mul-ps c = search needs
 
-array-set-from-qs : tie.Need-array-set-from-qs Inv-loop μ-loop
-array-set-from-qs c = search needs
+array-set-from-ps : tie.Need-array-set-from-ps Inv-loop μ-loop
+array-set-from-ps c = search needs
 
 add-k : tie.Need-add-k Inv-loop μ-loop
 add-k c = search needs
@@ -67,7 +67,7 @@ loop-again c =
     let t = c .before .before .before .before .before in
     let l = t .before in
     let a = l .before .args in
-    let p = paths (l .loop .qs) (l .loop .lpc) (l .loop .ring) in
+    let p = paths (l .loop .ps) (l .loop .lpc) (l .loop .ring) in
     (omega (arith, t .loop-test .taken), ap (pathSet p (l .loop .k)) (c .taken .ensures) ∙ iter-more (takeTurn (a .t4) (a .i) (a .r)) _ p _ (l .loop .inv .1))
 
 returns : tie.Need-returns Inv-loop μ-loop
@@ -94,8 +94,8 @@ taken-all-spec =
     mul-taken-2
     index-1-taken-2
     taken-requires
-    mul-qs
-    array-set-from-qs
+    mul-ps
+    array-set-from-ps
     add-k
     loop-less
     loop-again

@@ -62,11 +62,11 @@ array-copy-out-row c = search needs
 raised-unless-requires : tie.Need-raised-unless-requires Inv-loop μ-loop
 raised-unless-requires c κs = search needs
 
-mul-d : tie.Need-mul-d Inv-loop μ-loop
-mul-d c = search needs
+mul-c : tie.Need-mul-c Inv-loop μ-loop
+mul-c c = search needs
 
-array-set-from-d : tie.Need-array-set-from-d Inv-loop μ-loop
-array-set-from-d c = search needs
+array-set-from-c : tie.Need-array-set-from-c Inv-loop μ-loop
+array-set-from-c c = search needs
 
 add-k : tie.Need-add-k Inv-loop μ-loop
 add-k c = search needs
@@ -111,8 +111,8 @@ penalised-spec =
     mul-row
     array-copy-out-row
     raised-unless-requires
-    mul-d
-    array-set-from-d
+    mul-c
+    array-set-from-c
     add-k
     loop-less
     loop-again
