@@ -2,7 +2,7 @@
 -- Assumes nothing.
 use mathlib.Core.Path.{_≡_, sym, _∙_, ap}
 use denote.Ref.{now}
-use Rattle.path.proofs.Parts.{common-parts}
+use Rattle.path.proofs.Parts.{workOf, common-parts}
 use Rattle.path.specs.declared.structs.Sampled.{Sampled}
 use Rattle.path.specs.Data.{Running}
 use Rattle.steps.specs.Settled.{Settled}
@@ -26,30 +26,28 @@ sample-unique κs a r s e f p q =
     let same = p ∙ sym q in
     (ap sampledOf same, ap (λ (t : Settled). t .ps .lpcs) same, ap (λ (t : Settled). t .ps .rings) same)
 
+-- two subframes in work that are equal have equal parts, all eight
+all-parts : {t u : Running} → t ≡ u →
+    ((workOf t ≡ workOf u) × (t .core .ps .lpcs ≡ u .core .ps .lpcs) × (t .core .ps .rings ≡ u .core .ps .rings) × (t .core .«sLTP_Q15» ≡ u .core .«sLTP_Q15»)) ×
+    (t .core .«delayedGain_Q10» ≡ u .core .«delayedGain_Q10») × (t .xq ≡ u .xq) × (t .«sLTP_shp_Q14» ≡ u .«sLTP_shp_Q14») × (t .pulses ≡ u .pulses)
+all-parts same = (
+  common-parts same,
+  ap (λ (t : Running). t .core .«delayedGain_Q10») same,
+  ap (λ (t : Running). t .xq) same,
+  ap (λ (t : Running). t .«sLTP_shp_Q14») same,
+  ap (λ (t : Running). t .pulses) same,
+)
+
 -- the result and the seven rows at exit
 pub turn-unique : (κs a r s e f : _) → turn.Post κs a r e → turn.Post κs a s f →
     ((r ≡ s) × (now (e .1 .0) ≡ now (f .1 .0)) × (now (e .1 .1 .0) ≡ now (f .1 .1 .0)) × (now (e .1 .1 .1 .0) ≡ now (f .1 .1 .1 .0))) ×
     (now (e .1 .1 .1 .1 .0) ≡ now (f .1 .1 .1 .1 .0)) × (now (e .1 .1 .1 .1 .1 .0) ≡ now (f .1 .1 .1 .1 .1 .0)) ×
     (now (e .1 .1 .1 .1 .1 .1 .0) ≡ now (f .1 .1 .1 .1 .1 .1 .0)) × (now (e .1 .1 .1 .1 .1 .1 .1 .0) ≡ now (f .1 .1 .1 .1 .1 .1 .1 .0))
-turn-unique κs a r s e f p q =
-    let same = p .0 ∙ sym (q .0) in (
-      common-parts same,
-      ap (λ (t : Running). t .core .«delayedGain_Q10») same,
-      ap (λ (t : Running). t .xq) same,
-      ap (λ (t : Running). t .«sLTP_shp_Q14») same,
-      ap (λ (t : Running). t .pulses) same,
-    )
+turn-unique κs a r s e f p q = all-parts (p .0 ∙ sym (q .0))
 
 -- the result and the seven rows at exit
 pub silk-noise-shape-quantizer-del-dec-unique : (κs a r s e f : _) → del-dec.Post κs a r e → del-dec.Post κs a s f →
     ((r ≡ s) × (now (e .1 .0) ≡ now (f .1 .0)) × (now (e .1 .1 .0) ≡ now (f .1 .1 .0)) × (now (e .1 .1 .1 .0) ≡ now (f .1 .1 .1 .0))) ×
     (now (e .1 .1 .1 .1 .0) ≡ now (f .1 .1 .1 .1 .0)) × (now (e .1 .1 .1 .1 .1 .0) ≡ now (f .1 .1 .1 .1 .1 .0)) ×
     (now (e .1 .1 .1 .1 .1 .1 .0) ≡ now (f .1 .1 .1 .1 .1 .1 .0)) × (now (e .1 .1 .1 .1 .1 .1 .1 .0) ≡ now (f .1 .1 .1 .1 .1 .1 .1 .0))
-silk-noise-shape-quantizer-del-dec-unique κs a r s e f p q =
-    let same = p .0 ∙ sym (q .0) in (
-      common-parts same,
-      ap (λ (t : Running). t .core .«delayedGain_Q10») same,
-      ap (λ (t : Running). t .xq) same,
-      ap (λ (t : Running). t .«sLTP_shp_Q14») same,
-      ap (λ (t : Running). t .pulses) same,
-    )
+silk-noise-shape-quantizer-del-dec-unique κs a r s e f p q = all-parts (p .0 ∙ sym (q .0))
