@@ -1,7 +1,9 @@
 //! Writes the file `stdout` of the program subframe_replay, by the Rust of unopus 0.0.1: `silk_nsq_del_dec_scale_states`, then
 //! `silk_noise_shape_quantizer_del_dec`, on the same settings and rows. Here `unopus_nsq` is a library of its sources src/silk/*.rs with
 //! public modules and with both functions of NSQ_del_dec.rs public (`sed -i 's/^unsafe fn silk_n/pub unsafe fn silk_n/'`). Build it with
-//! this program for release, without overflow checks, and run `subframe_replay > stdout`.
+//! this program for release, without overflow checks, and run `subframe_replay > stdout`. Of each path's LPC words the digest has those that
+//! count after a subframe of L samples, 0 to 15 and L to L + 15: the Rust keeps the first i LPC words of a path that is replaced at sample i,
+//! which nothing reads again, and the port copies whole paths.
 #![allow(non_snake_case)]
 use unopus_nsq::silk::structs::{silk_encoder_state, silk_nsq_state};
 use unopus_nsq::silk::NSQ_del_dec::{silk_noise_shape_quantizer_del_dec, silk_nsq_del_dec_scale_states, NSQ_del_dec_struct};
@@ -152,7 +154,7 @@ impl Digest {
     }
 }
 
-fn print_rows(ps: &[NSQ_del_dec_struct; 4], nsq: &silk_nsq_state, ltp: &[i32; 640], dgain: &[i32; 40], pulses: &[i8; 320], at: i32) {
+fn print_rows(ps: &[NSQ_del_dec_struct; 4], nsq: &silk_nsq_state, ltp: &[i32; 640], dgain: &[i32; 40], pulses: &[i8; 320], at: i32, l: usize) {
     let mut d = Digest::new();
     d.word(at);
     for p in ps {
@@ -161,7 +163,10 @@ fn print_rows(ps: &[NSQ_del_dec_struct; 4], nsq: &silk_nsq_state, ltp: &[i32; 64
     }
     d.put(" ");
     let mut d = Digest::new();
-    ps.iter().for_each(|p| d.words(&p.sLPC_Q14));
+    for p in ps {
+        d.words(&p.sLPC_Q14[..16]);
+        d.words(&p.sLPC_Q14[l..l + 16]);
+    }
     d.put(" ");
     let mut d = Digest::new();
     for p in ps {
@@ -250,7 +255,7 @@ fn run(c: usize, seed: i32) {
             f.shaping as i32, f.order as i32, warping, f.n as i32, &mut at, f.delay as i32, 0,
         );
     }
-    print_rows(&ps, &nsq, &ltp, &dgain, &pulses, at);
+    print_rows(&ps, &nsq, &ltp, &dgain, &pulses, at, f.l);
 }
 
 fn main() {

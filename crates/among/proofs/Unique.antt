@@ -14,7 +14,7 @@ swap-of-unique κs a r s e p q = p .0 ∙ sym (q .0)
 pub replaced-unique : (κs a r s e f : _) → replaced.Post κs a r e → replaced.Post κs a s f →
     (r ≡ s) × (now (e .1 .0) ≡ now (f .1 .0)) × (now (e .1 .1 .0) ≡ now (f .1 .1 .0))
 replaced-unique κs a r s e f p q =
-    let same = p ∙ sym q in
+    let same = p 0 ∙ sym (q 0) in
     (ap (λ (t : Paths). t .owns) same, ap (λ (t : Paths). t .lpcs) same, ap (λ (t : Paths). t .rings) same)
 
 pub moved-over-unique : (κs a r s e : _) → moved-over.Post κs a r e → moved-over.Post κs a s e → r ≡ s

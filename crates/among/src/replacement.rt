@@ -1,8 +1,8 @@
 // The replacement of one path by another.
 ghost use mathlib.Core.Path.{_≡_};
-ghost use Prim.Native.Nat.{_<_, _≤_};
+ghost use Prim.Native.Nat.{ℕ, _<_, _≤_};
 ghost use Rattle.path.specs.Data.{paths};
-ghost use Rattle.steps.specs.Among.{swapOf, keepsFirst, replaced as replacedZ, movedOver};
+ghost use Rattle.steps.specs.Among.{swapOf, fullCopy, replaced as replacedZ, movedOver};
 use path::structs::Candidate;
 use path::structs::Path;
 use path::structs::Swap;
@@ -24,39 +24,23 @@ pub fn swap_of(c: [[Candidate; 2]; 4], n: usize) -> Swap
     }
 }
 
-// The LPC words of `by`, but the first i of `own`.
-fn kept_words(own: [i32; 96], by: [i32; 96], i: usize) -> [i32; 96]
-    requires { ⌜ i ≤ 96 ⌝ }
-    ensures { λ r. ⌜ r ≡ keepsFirst own by i ⌝ }
-{
-    let mut row = by;
-    for j in 0..i {
-        let w = own[j];
-        row[j] = w;
-    }
-    row
-}
-
-// The paths after the replacement, if there is one.
+// The paths after the replacement, if there is one: the replaced path becomes a full copy, whatever the sample's place i in its subframe.
 pub fn replaced(
     mut ps: [Path; 4],
     lpc: &mut [[i32; 96]; 4],
     ring: &mut [[[i32; 40]; 5]; 4],
     s: Swap,
-    i: usize,
 ) -> [Path; 4]
-    requires { ⌜ (s .to < 4) × ((s .by < 4) × (i ≤ 96)) ⌝ }
-    ensures { λ q. ⌜ paths q (now (lpc .exit)) (now (ring .exit)) ≡ replacedZ keepsFirst s i (paths ps (now (lpc .entry)) (now (ring .entry))) ⌝ }
+    requires { ⌜ (s .to < 4) × (s .by < 4) ⌝ }
+    ensures { λ q. ⌜ ((i : ℕ) → paths q (now (lpc .exit)) (now (ring .exit)) ≡ replacedZ fullCopy s i (paths ps (now (lpc .entry)) (now (ring .entry)))) ⌝ }
 {
     if s.yes {
         let to = s.to;
         let by = s.by;
         let p = ps[by];
         ps[to] = p;
-        let own = lpc[to];
-        let other = lpc[by];
-        let row = kept_words(own, other, i);
-        lpc[to] = row;
+        let words = lpc[by];
+        lpc[to] = words;
         let rings = ring[by];
         ring[to] = rings;
     }

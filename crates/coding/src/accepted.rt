@@ -5,14 +5,15 @@ ghost use Prim.Native.Nat.{_-_, _*_, _<_, _≤_};
 ghost use lib.ListN.{length, replicate};
 ghost use lib.IntN.{pos};
 ghost use lib.Signed.{_≤ℤ_};
-ghost use Rattle.steps.specs.Among.{keepsFirst};
+ghost use Rattle.steps.specs.Among.{fullCopy};
 ghost use Rattle.fixed.specs.Row.{word};
 ghost use Rattle.path.specs.Data.{paths, running};
 ghost use Rattle.refusal_rules.specs.Good.{Good};
 ghost use Rattle.silk.specs.State.{zeros};
 ghost use Rattle.steps.specs.Begin.{zeroPath, begun};
-ghost use Rattle.steps.specs.Call.{callOf, Sound, Stocked};
+ghost use Rattle.steps.specs.Call.{Sound, Stocked};
 ghost use Rattle.steps.specs.Frame.{framedOf, runBy, doneOf, endedBy, frame as frameZ};
+ghost use Rattle.steps.specs.Lent.{callAt};
 ghost use Rattle.steps.specs.Sizes.{sizesOf};
 use calls::begin;
 use calls::call;
@@ -63,8 +64,14 @@ fn rest(
     lags: &[i32],
     g: Given,
 ) -> Handed
-    requires { ⌜ ((Sound g (now lags) × Stocked g (now x) (now pred) (now long) (now ar) (now tilt) (now harm) (now lf) (now gains) (now lags)) × (g .«nb_subfr» * g .«subfr_length» ≤ length (now pulses))) × ((pos 1 ≤ℤ t .prev) × (t .work .«smpl_buf_idx» < 40)) ⌝ }
-    ensures { λ r. ⌜ doneOf (r .seed) (r .state) (now (pulses .exit)) ≡ endedBy g (word (now (gains .entry)) (g .«nb_subfr» - 1)) (word (now (lags .entry)) (g .«nb_subfr» - 1)) words (runBy keepsFirst g (now (x .entry)) (now (pred .entry)) (now (long .entry)) (now (ar .entry)) (now (tilt .entry)) (now (harm .entry)) (now (lf .entry)) (now (gains .entry)) (now (lags .entry)) (g .«nb_subfr») (framedOf (running (t .work) lpcs rings (zeros 640) (zeros 40) history shaping (now (pulses .entry))) (t .sLTP) (t .prev))) ⌝ }
+    requires { ⌜ ((Sound g (now lags) × Stocked g (now x) (now pred) (now long) (now ar) (now tilt) (now harm) (now lf) (now gains) (now lags))
+        × (g .«nb_subfr» * g .«subfr_length» ≤ length (now pulses)))
+        × ((pos 1 ≤ℤ t .prev) × (t .work .«smpl_buf_idx» < 40)) ⌝ }
+    ensures { λ r. ⌜ doneOf (r .seed) (r .state) (now (pulses .exit))
+        ≡ endedBy g (word (now (gains .entry)) (g .«nb_subfr» - 1)) (word (now (lags .entry)) (g .«nb_subfr» - 1)) words
+        (runBy fullCopy g (now (x .entry)) (now (pred .entry)) (now (long .entry)) (now (ar .entry)) (now (tilt .entry)) (now (harm .entry)) (now (lf .entry)) (now (gains .entry)) (now (lags .entry))
+        (g .«nb_subfr»)
+        (framedOf (running (t .work) lpcs rings (zeros 640) (zeros 40) history shaping (now (pulses .entry))) (t .sLTP) (t .prev))) ⌝ }
 {
     let mut lpc = lpcs;
     let mut ring = rings;
@@ -105,7 +112,12 @@ fn opened(
     ring: &mut [[[i32; 40]; 5]; 4],
 ) -> Frame
     requires { ⌜ ((0 < g .«subfr_length») × (g .«subfr_length» ≤ 80)) × ((g .seed < 4) × (g .nStates ≤ 4)) ⌝ }
-    ensures { λ r. ⌜ ((paths (r .work .ps) (now (lpc .exit)) (now (ring .exit)) ≡ begun (state .«sAR2_Q14») (state .«sLF_AR_shp_Q14») (state .«sDiff_shp_Q14») (state .«sLPC_Q14») (word (state .«sLTP_shp_Q14») (4 * g .«subfr_length» - 1)) (g .seed) (g .nStates) (paths (replicate 4 zeroPath) (now (lpc .entry)) (now (ring .entry)))) × (r .work .«smpl_buf_idx» ≡ 0)) × ((r .sLTP ≡ zeros 640) × (r .prev ≡ state .«prev_gain_Q16»)) ⌝ }
+    ensures { λ r. ⌜ ((paths (r .work .ps) (now (lpc .exit)) (now (ring .exit))
+        ≡ begun (state .«sAR2_Q14») (state .«sLF_AR_shp_Q14») (state .«sDiff_shp_Q14») (state .«sLPC_Q14»)
+        (word (state .«sLTP_shp_Q14») (4 * g .«subfr_length» - 1)) (g .seed) (g .nStates)
+        (paths (replicate 4 zeroPath) (now (lpc .entry)) (now (ring .entry))))
+        × (r .work .«smpl_buf_idx» ≡ 0))
+        × ((r .sLTP ≡ zeros 640) × (r .prev ≡ state .«prev_gain_Q16»)) ⌝ }
 {
     let shp = state.sLTP_shp_Q14;
     let ar2 = state.sAR2_Q14;
@@ -149,8 +161,12 @@ pub fn coded(
     gains: &[i32],
     lags: &[i32],
 ) -> Handed
-    requires { ⌜ Good s (sizesOf (callOf s state (now pred) (now long) (now ar) (now harm) (now tilt) (now lf) (now gains) (now lags)) (now x) (now pulses)) (state .lagPrev) (state .«prev_gain_Q16») (now gains) (now lags) ⌝ }
-    ensures { λ r. ⌜ doneOf (r .seed) (r .state) (now (pulses .exit)) ≡ frameZ keepsFirst (callOf s state (now (pred .entry)) (now (long .entry)) (now (ar .entry)) (now (harm .entry)) (now (tilt .entry)) (now (lf .entry)) (now (gains .entry)) (now (lags .entry))) (now (x .entry)) (now (pulses .entry)) ⌝ }
+    requires { ⌜ Good s (sizesOf (callAt s state pred long ar harm tilt lf gains lags) (now x) (now pulses)) (state .lagPrev) (state .«prev_gain_Q16»)
+        (now gains) (now lags) ⌝ }
+    ensures { λ r. ⌜ doneOf (r .seed) (r .state) (now (pulses .exit))
+        ≡ frameZ fullCopy
+        (callAt s state (pred .entry) (long .entry) (ar .entry) (harm .entry) (tilt .entry) (lf .entry) (gains .entry) (lags .entry))
+        (now (x .entry)) (now (pulses .entry)) ⌝ }
 {
     let g = call::given_of(s, state.lagPrev, lags);
     let mut lpc = begin::zero_lpcs();

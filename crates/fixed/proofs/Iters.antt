@@ -1,5 +1,5 @@
 -- Loops: one turn more for the code's loops, and what holds after each turn of one loop or of two.
-use Prim.Native.Nat.{ℕ, zero, suc, _+_, _<_}
+use Prim.Native.Nat.{ℕ, zero, suc, _+_, _-_, _<_, _≤_}
 use native.Mathlib.Omega.{arith}
 use native.Mathlib.Nat.{add-zero, add-suc}
 use native.Mathlib.Numerals.{add-one}
@@ -49,3 +49,11 @@ either-all Q false x y p q = q refl
 pub either-rel : {A B : Type 0} (R : A → B → Type 0) (c : Bool) (x y : A) (u v : B) → (c ≡ true → R x u) → (c ≡ false → R y v) → R (either c x y) (either c u v)
 either-rel R true x y u v h k = h refl
 either-rel R false x y u v h k = k refl
+
+-- ---- a search from the first to the last, that moves on where a test says so: what it finds is one of the n
+pub found-less : (test : ℕ → ℕ → Bool) (n : ℕ) → 0 < n → iter (λ k w. either (test k w) k w) n 0 < n
+found-less test n h =
+    let last : iter (λ k w. either (test k w) k w) n 0 ≤ n - 1 =
+    iter-keeps (λ k w. w ≤ k - 1) (λ k w. either (test k w) k w) n
+    (λ k b w below. either-all (λ v. v ≤ suc k - 1) (test k w) k w (λ e. omega arith) (λ e. omega arith)) 0 (omega arith) in
+    omega arith

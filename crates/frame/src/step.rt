@@ -1,14 +1,15 @@
 // One subframe of a frame.
 ghost use mathlib.Core.Path.{_≡_};
-ghost use Prim.Native.Nat.{_+_, _*_, _<_, _≤_};
+ghost use Prim.Native.Nat.{_*_, _<_, _≤_};
 ghost use lib.ListN.{length};
 ghost use lib.IntN.{pos};
 ghost use lib.Signed.{_≤ℤ_};
-ghost use Rattle.path.specs.Data.{rows, running};
-ghost use Rattle.steps.specs.Among.{keepsFirst};
+ghost use Rattle.steps.specs.Among.{fullCopy};
 ghost use Rattle.places.specs.Places.{Fits};
 ghost use Rattle.steps.specs.Call.{Room};
-ghost use Rattle.steps.specs.Frame.{framedOf, step as stepZ};
+ghost use Rattle.steps.specs.Frame.{stepBy};
+ghost use Rattle.steps.specs.Lent.{rowsAt, Supplied};
+ghost use Rattle.frame.specs.Lent.{framedAt};
 use befores::before;
 use path::structs::Fix;
 use path::structs::Halves;
@@ -41,8 +42,13 @@ pub fn step(
     h: Halves,
     p: Prior,
 ) -> Frame
-    requires { ⌜ ((Fits f × Room f) × ((pos 1 ≤ℤ t .prev) × (pos 1 ≤ℤ f .«Gain_Q16»))) × ((((f .decisionDelay ≤ 2 * f .«subfr_length») × (2 * f .«subfr_length» ≤ length (now pulses))) × (t .work .«smpl_buf_idx» < 40)) × (((16 ≤ length (now a)) × (5 ≤ length (now b))) × ((24 ≤ length (now ar)) × ((f .base + f .«subfr_length» ≤ length (now x)) × (f .base + f .«subfr_length» ≤ length (now pulses)))))) ⌝ }
-    ensures { λ r. ⌜ (framedOf (running (r .work) (now (lpc .exit)) (now (ring .exit)) (now (ltp .exit)) (now (dgain .exit)) (now (xq .exit)) (now (shp .exit)) (now (pulses .exit))) (r .sLTP) (r .prev) ≡ stepZ keepsFirst f (rows (now (a .entry)) (now (b .entry)) (now (ar .entry)) h) (now (x .entry)) (p .again) (p .rewhite) (p .gain1) (p .inv) (framedOf (running (t .work) (now (lpc .entry)) (now (ring .entry)) (now (ltp .entry)) (now (dgain .entry)) (now (xq .entry)) (now (shp .entry)) (now (pulses .entry))) (t .sLTP) (t .prev))) × ((r .prev ≡ f .«Gain_Q16») × (r .work .«smpl_buf_idx» < 40)) ⌝ }
+    requires { ⌜ ((Fits f × Room f) × ((pos 1 ≤ℤ t .prev) × (pos 1 ≤ℤ f .«Gain_Q16»)))
+        × ((((f .decisionDelay ≤ 2 * f .«subfr_length») × (2 * f .«subfr_length» ≤ length (now pulses))) × (t .work .«smpl_buf_idx» < 40))
+        × Supplied f a b ar x pulses) ⌝ }
+    ensures { λ r. ⌜ (framedAt r (lpc .exit) (ring .exit) (ltp .exit) (dgain .exit) (xq .exit) (shp .exit) (pulses .exit)
+        ≡ stepBy fullCopy f (rowsAt (a .entry) (b .entry) (ar .entry) h) (now (x .entry)) p
+        (framedAt t (lpc .entry) (ring .entry) (ltp .entry) (dgain .entry) (xq .entry) (shp .entry) (pulses .entry)))
+        × ((r .prev ≡ f .«Gain_Q16») × (r .work .«smpl_buf_idx» < 40)) ⌝ }
 {
     let w = t.work;
     let sltp = t.sLTP;

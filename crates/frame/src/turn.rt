@@ -5,11 +5,12 @@ ghost use Prim.Native.Nat.{_+_, _*_, _<_, _≤_};
 ghost use lib.ListN.{length, take, drop};
 ghost use lib.IntN.{pos};
 ghost use lib.Signed.{_≤ℤ_};
-ghost use Rattle.path.specs.Data.{rows, running};
-ghost use Rattle.steps.specs.Among.{keepsFirst};
+ghost use Rattle.path.specs.Data.{rows};
+ghost use Rattle.steps.specs.Among.{fullCopy};
 ghost use Rattle.places.specs.Places.{Fits};
 ghost use Rattle.steps.specs.Call.{Sound, Stocked, Room};
-ghost use Rattle.steps.specs.Frame.{framedOf, stepBy, priorBy, turnBy};
+ghost use Rattle.steps.specs.Frame.{stepBy, priorBy, turnBy};
+ghost use Rattle.frame.specs.Lent.{framedAt};
 use crate::step;
 use crate::step::Frame;
 use path::structs::Fix;
@@ -54,8 +55,15 @@ fn stepped(
     five: usize,
     shape: usize,
 ) -> Frame
-    requires { ⌜ ((Fits f × Room f) × ((pos 1 ≤ℤ t .prev) × (pos 1 ≤ℤ f .«Gain_Q16»))) × ((((f .decisionDelay ≤ 2 * f .«subfr_length») × (2 * f .«subfr_length» ≤ length (now pulses))) × (t .work .«smpl_buf_idx» < 40)) × (((from + 16 ≤ length (now pred)) × (five + 5 ≤ length (now long))) × ((shape + 24 ≤ length (now ar)) × ((f .base + f .«subfr_length» ≤ length (now x)) × (f .base + f .«subfr_length» ≤ length (now pulses)))))) ⌝ }
-    ensures { λ r. ⌜ (framedOf (running (r .work) (now (lpc .exit)) (now (ring .exit)) (now (ltp .exit)) (now (dgain .exit)) (now (xq .exit)) (now (shp .exit)) (now (pulses .exit))) (r .sLTP) (r .prev) ≡ stepBy keepsFirst f (rows (take 16 (drop from (now (pred .entry)))) (take 5 (drop five (now (long .entry)))) (take 24 (drop shape (now (ar .entry)))) h) (now (x .entry)) p (framedOf (running (t .work) (now (lpc .entry)) (now (ring .entry)) (now (ltp .entry)) (now (dgain .entry)) (now (xq .entry)) (now (shp .entry)) (now (pulses .entry))) (t .sLTP) (t .prev))) × ((r .prev ≡ f .«Gain_Q16») × (r .work .«smpl_buf_idx» < 40)) ⌝ }
+    requires { ⌜ ((Fits f × Room f) × ((pos 1 ≤ℤ t .prev) × (pos 1 ≤ℤ f .«Gain_Q16»)))
+        × ((((f .decisionDelay ≤ 2 * f .«subfr_length») × (2 * f .«subfr_length» ≤ length (now pulses))) × (t .work .«smpl_buf_idx» < 40))
+        × (((from + 16 ≤ length (now pred)) × (five + 5 ≤ length (now long)))
+        × ((shape + 24 ≤ length (now ar)) × ((f .base + f .«subfr_length» ≤ length (now x)) × (f .base + f .«subfr_length» ≤ length (now pulses)))))) ⌝ }
+    ensures { λ r. ⌜ (framedAt r (lpc .exit) (ring .exit) (ltp .exit) (dgain .exit) (xq .exit) (shp .exit) (pulses .exit)
+        ≡ stepBy fullCopy f (rows (take 16 (drop from (now (pred .entry)))) (take 5 (drop five (now (long .entry)))) (take 24 (drop shape (now (ar .entry)))) h)
+        (now (x .entry)) p
+        (framedAt t (lpc .entry) (ring .entry) (ltp .entry) (dgain .entry) (xq .entry) (shp .entry) (pulses .entry)))
+        × ((r .prev ≡ f .«Gain_Q16») × (r .work .«smpl_buf_idx» < 40)) ⌝ }
 {
     step::step(
         t,
@@ -98,8 +106,13 @@ pub fn turn(
     g: Given,
     k: usize,
 ) -> Frame
-    requires { ⌜ ((Sound g (now lags) × Stocked g (now x) (now pred) (now long) (now ar) (now tilt) (now harm) (now lf) (now gains) (now lags)) × ((k < g .«nb_subfr») × (g .«nb_subfr» * g .«subfr_length» ≤ length (now pulses)))) × ((pos 1 ≤ℤ t .prev) × (t .work .«smpl_buf_idx» < 40)) ⌝ }
-    ensures { λ r. ⌜ (framedOf (running (r .work) (now (lpc .exit)) (now (ring .exit)) (now (ltp .exit)) (now (dgain .exit)) (now (xq .exit)) (now (shp .exit)) (now (pulses .exit))) (r .sLTP) (r .prev) ≡ turnBy keepsFirst g (now (x .entry)) (now (pred .entry)) (now (long .entry)) (now (ar .entry)) (now (tilt .entry)) (now (harm .entry)) (now (lf .entry)) (now (gains .entry)) (now (lags .entry)) k (framedOf (running (t .work) (now (lpc .entry)) (now (ring .entry)) (now (ltp .entry)) (now (dgain .entry)) (now (xq .entry)) (now (shp .entry)) (now (pulses .entry))) (t .sLTP) (t .prev))) × ((pos 1 ≤ℤ r .prev) × (r .work .«smpl_buf_idx» < 40)) ⌝ }
+    requires { ⌜ ((Sound g (now lags) × Stocked g (now x) (now pred) (now long) (now ar) (now tilt) (now harm) (now lf) (now gains) (now lags))
+        × ((k < g .«nb_subfr») × (g .«nb_subfr» * g .«subfr_length» ≤ length (now pulses))))
+        × ((pos 1 ≤ℤ t .prev) × (t .work .«smpl_buf_idx» < 40)) ⌝ }
+    ensures { λ r. ⌜ (framedAt r (lpc .exit) (ring .exit) (ltp .exit) (dgain .exit) (xq .exit) (shp .exit) (pulses .exit)
+        ≡ turnBy fullCopy g (now (x .entry)) (now (pred .entry)) (now (long .entry)) (now (ar .entry)) (now (tilt .entry)) (now (harm .entry)) (now (lf .entry)) (now (gains .entry)) (now (lags .entry)) k
+        (framedAt t (lpc .entry) (ring .entry) (ltp .entry) (dgain .entry) (xq .entry) (shp .entry) (pulses .entry)))
+        × ((pos 1 ≤ℤ r .prev) × (r .work .«smpl_buf_idx» < 40)) ⌝ }
 {
     let f = scalars::fix_of(g, lags, lf, gains, k);
     let h = scalars::halves_of(g, tilt, harm, k);

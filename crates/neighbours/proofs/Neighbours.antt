@@ -49,7 +49,8 @@ use Rattle.steps.specs.Frame.{startPaths, start, flushedRun, middleBy, rewhiten
 use Rattle.word_steps.specs.Tail.{movedDown, wordsFrom}
 use Rattle.steps.specs.Entry.{answered, outcomeBy, outcome}
 use Rattle.steps.specs.Sizes.{sizesOf}
-use Rattle.neighbours.specs.Neighbours.{sameRow, given, others, differ, settingsOf, settings, stateOf, state, history, shapes, lpcs, filter, after, preds, ltps, ars, each, call, quiet, one, voiced, withPred, withLtp, withAr, withHarm, withTilt, withLags, shaped, byQuiet, byShaped, byOne, byVoiced, lastLag, lastHistory, lastFilter, four, tight, tightSamples, byLate}
+use Rattle.full_copy.specs.Copy.{later}
+use Rattle.neighbours.specs.Neighbours.{sameRow, given, others, differ, settingsFor, settingsOf, settings, stateOf, state, history, shapes, lpcs, filter, after, preds, ltps, ars, each, call, quiet, one, voiced, withPred, withLtp, withAr, withHarm, withTilt, withLags, shaped, byQuiet, byShaped, byOne, byVoiced, lastLag, lastHistory, lastFilter, four, tight, tightSamples, byLate, oldest, byRule}
 
 -- all by one statement:
 pub neighbours-matter :
@@ -67,5 +68,11 @@ pub neighbours-matter :
     -- sample 31 does change the pulse at 31 - D: the bound of demand 3's second half can't be moved by one
     × (delayOf tight ≡ 13)
     × (sameZ (byLate (negsuc 1)) (byLate (pos 2)) ≡ false)
-unfolding leadingZeros sameRow given others differ settingsOf settings stateOf state history shapes lpcs filter after preds ltps ars each call quiet one voiced withPred withLtp withAr withHarm withTilt withLags shaped byQuiet byShaped byOne byVoiced lastLag lastHistory lastFilter shr shl32 shr32 rround or32 clz32 wrapTo wrap32 wrap16 wrap8 clamp sat16 minZ abs32 smulbb smlabb smulwb smlawb smulwt smlawt smulww smlaww smmul rand headrm nrm «b32_inv» «lshift_SAT32» shifted «err_Q32» refined «silk_INVERSE32_varQ» «result_1» rest «result_2» «silk_DIV32_varQ» atLeastOne «inv_gain_Q31» «inv_gain_Q26» «x_sc_Q10» «ltp_scaled_inv_gain» «gain_adj_Q16» prediction filtered analysis zeros freshLag freshState shortPrediction longPrediction warpedFilter arTerm lfTerm packedGain shapedLag ltpTerm predicted residual pulseOf xqOut offsetOf turned signedResidual signedExcitation pulseOf-choice seedWith biased «q1_Q0» above atZero atMinusOne below tried withNoise ordered costed choice moved candidateOf termsOf residualOf pairFrom pairOf pair raised takenOwn takenRings taken scaledWords scaledOwn scaledPath leastOf worstOf sameWord raisedUnless penalised swapOf keepsFirst copied replaced movedOver moves pairs-samples takenAll leaving replacing settled tried-samples sample down predicted-paths harmonic common tookFrom took leaves putAt put turn backed backs moveBack subframe filled scaledPaths scaledWork scaled outside lengthAllowed countAllowed orderFor oddZ lengthsRefused ordersRefused pathsRefused kindsRefused eachRefused rowsRefused gainRefused someGain gainsRefused lagRefused quietLagRefused someLag lastOf lagsRefused table answerOf voicedBy interpolatedBy lowered voicedDelay quietDelay delayBy givenBy lagBy twiceBy secondBy rewhitesBy sinceBy rowBy fixBy halvesBy rowsBy whiteBy zeroPath zeroLpcs zeroRings ownFrom startLpc startRings begun bestOf fitMiddle fitLast flushAt flushed raisedPath otherPath othersRaised startPaths start flushedRun middleBy rewhitened refilled whitened regained flushedFirst whitenedFirst before coded step priorBy turnBy run movedDown wordsFrom leftBy endedBy frame sizesOf answered outcomeBy outcome four tight tightSamples byLate
-neighbours-matter = (refl, refl, refl, refl, refl, refl, refl, refl, refl, refl)
+    -- a replaced path that is copied from word i + 2 on gives other pulses than the Rust's
+    × (sameRow (byRule keepsFirst) (byRule (later 2)) ≡ false)
+unfolding leadingZeros sameRow given others differ settingsFor settingsOf settings stateOf state history shapes lpcs filter after preds ltps ars each call quiet one voiced withPred withLtp withAr withHarm withTilt withLags shaped byQuiet byShaped byOne byVoiced lastLag lastHistory lastFilter shr shl32 shr32 rround or32 clz32 wrapTo wrap32 wrap16 wrap8 clamp sat16 minZ abs32 smulbb smlabb smulwb smlawb smulwt smlawt smulww smlaww smmul rand headrm nrm «b32_inv» «lshift_SAT32» shifted «err_Q32» refined «silk_INVERSE32_varQ» «result_1» rest «result_2» «silk_DIV32_varQ» atLeastOne «inv_gain_Q31» «inv_gain_Q26» «x_sc_Q10» «ltp_scaled_inv_gain» «gain_adj_Q16» prediction filtered analysis zeros freshLag freshState shortPrediction longPrediction warpedFilter arTerm lfTerm packedGain shapedLag ltpTerm predicted residual pulseOf xqOut offsetOf turned signedResidual signedExcitation pulseOf-choice seedWith biased «q1_Q0» above atZero atMinusOne below tried withNoise ordered costed choice moved candidateOf termsOf residualOf pairFrom pairOf pair raised takenOwn takenRings taken scaledWords scaledOwn scaledPath leastOf worstOf sameWord raisedUnless penalised swapOf keepsFirst copied replaced movedOver moves pairs-samples takenAll leaving replacing settled tried-samples sample down predicted-paths harmonic common tookFrom took leaves putAt put turn backed backs moveBack subframe filled scaledPaths scaledWork scaled outside lengthAllowed countAllowed orderFor oddZ lengthsRefused ordersRefused pathsRefused kindsRefused eachRefused rowsRefused gainRefused someGain gainsRefused lagRefused quietLagRefused someLag lastOf lagsRefused table answerOf voicedBy interpolatedBy lowered voicedDelay quietDelay delayBy givenBy lagBy twiceBy secondBy rewhitesBy sinceBy rowBy fixBy halvesBy rowsBy whiteBy zeroPath zeroLpcs zeroRings ownFrom startLpc startRings begun bestOf fitMiddle fitLast flushAt flushed raisedPath otherPath othersRaised startPaths start flushedRun middleBy rewhitened refilled whitened regained flushedFirst whitenedFirst before coded step priorBy turnBy run movedDown wordsFrom leftBy endedBy frame sizesOf answered outcomeBy outcome four tight tightSamples byLate later oldest byRule
+neighbours-matter = (refl, refl, refl, refl, refl, refl, refl, refl, refl, refl, refl)
+
+-- so the window of `full_copy` can't be moved by one: its rules copy from word i + 1 on, and one that copies from word i + 2 on is heard
+pub two-later-heard : sameRow (byRule keepsFirst) (byRule (later 2)) ≡ false
+two-later-heard = neighbours-matter .10

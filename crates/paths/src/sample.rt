@@ -3,7 +3,7 @@ ghost use mathlib.Core.Path.{_≡_};
 ghost use Prim.Native.Nat.{_+_, _<_, _≤_};
 ghost use lib.ListN.{length};
 ghost use Rattle.path.specs.Data.{paths, ringAt};
-ghost use Rattle.steps.specs.Among.{keepsFirst};
+ghost use Rattle.steps.specs.Among.{fullCopy};
 ghost use Rattle.steps.specs.Settled.{settledOf, leaving as leavingZ, settled as settledZ};
 ghost use Rattle.steps.specs.Sample.{sample as sampleZ};
 use crate::each;
@@ -70,13 +70,13 @@ fn settled(
     last: usize,
 ) -> Sampled
     requires { ⌜ ((0 < n) × (n ≤ 4)) × ((i < 80) × ((r < 40) × (last < 40))) ⌝ }
-    ensures { λ s. ⌜ settledOf s (now (lpc .exit)) (now (ring .exit)) ≡ settledZ keepsFirst c n i r last (paths ps (now (lpc .entry)) (now (ring .entry))) ⌝ }
+    ensures { λ s. ⌜ settledOf s (now (lpc .exit)) (now (ring .exit)) ≡ settledZ fullCopy c n i r last (paths ps (now (lpc .entry)) (now (ring .entry))) ⌝ }
 {
     let w = search::least(c, 0, n);
     let d = penalties::penalised(c, ring, n, w, last);
     let s = replacement::swap_of(d, n);
     let e = replacement::moved_over(d, s);
-    let qs = replacement::replaced(ps, lpc, ring, s, i);
+    let qs = replacement::replaced(ps, lpc, ring, s);
     leaving(qs, lpc, ring, e, n, i, r, last, w)
 }
 
@@ -95,8 +95,11 @@ pub fn sample(
     r: usize,
     last: usize,
 ) -> Sampled
-    requires { ⌜ ((0 < f .«nStates») × (f .«nStates» ≤ 4)) × (((i < 80) × ((r0 < 40) × ((r < 40) × (last < 40)))) × (((f .«predictLPCOrder» ≤ 16) × (16 ≤ length (now a))) × ((1 ≤ f .«shapingLPCOrder») × ((f .«shapingLPCOrder» ≤ 24) × (f .«shapingLPCOrder» ≤ length (now ar)))))) ⌝ }
-    ensures { λ t. ⌜ settledOf t (now (lpc .exit)) (now (ring .exit)) ≡ sampleZ keepsFirst f h (now (a .entry)) (now (ar .entry)) s i r0 r last (paths ps (now (lpc .entry)) (now (ring .entry))) ⌝ }
+    requires { ⌜ ((0 < f .«nStates») × (f .«nStates» ≤ 4)) × (((i < 80) × ((r0 < 40) × ((r < 40) × (last < 40))))
+        × (((f .«predictLPCOrder» ≤ 16) × (16 ≤ length (now a)))
+        × ((1 ≤ f .«shapingLPCOrder») × ((f .«shapingLPCOrder» ≤ 24) × (f .«shapingLPCOrder» ≤ length (now ar)))))) ⌝ }
+    ensures { λ t. ⌜ settledOf t (now (lpc .exit)) (now (ring .exit))
+        ≡ sampleZ fullCopy f h (now (a .entry)) (now (ar .entry)) s i r0 r last (paths ps (now (lpc .entry)) (now (ring .entry))) ⌝ }
 {
     let n = f.nStates;
     let m = each::moves(ps, f, h, ar);

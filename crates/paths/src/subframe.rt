@@ -1,9 +1,8 @@
 // A whole subframe: `silk_noise_shape_quantizer_del_dec`.
 ghost use mathlib.Core.Path.{_≡_};
-ghost use Prim.Native.Nat.{_+_, _<_, _≤_};
-ghost use lib.ListN.{length};
-ghost use Rattle.path.specs.Data.{rows, running};
-ghost use Rattle.steps.specs.Among.{keepsFirst};
+ghost use Prim.Native.Nat.{_<_, _≤_};
+ghost use Rattle.steps.specs.Among.{fullCopy};
+ghost use Rattle.steps.specs.Lent.{runningAt, rowsAt, Supplied};
 ghost use Rattle.steps.specs.Subframe.{backed, backs as backsZ, subframe as subframeZ};
 ghost use Rattle.places.specs.Places.{Fits};
 use crate::turn;
@@ -49,8 +48,11 @@ pub fn silk_noise_shape_quantizer_del_dec(
     f: Fix,
     h: Halves,
 ) -> Work
-    requires { ⌜ (Fits f × (w .«smpl_buf_idx» < 40)) × (((16 ≤ length (now a)) × (5 ≤ length (now b))) × ((24 ≤ length (now ar)) × ((f .base + f .«subfr_length» ≤ length (now x)) × (f .base + f .«subfr_length» ≤ length (now pulses))))) ⌝ }
-    ensures { λ r. ⌜ (running r (now (lpc .exit)) (now (ring .exit)) (now (ltp .exit)) (now (dgain .exit)) (now (xq .exit)) (now (shp .exit)) (now (pulses .exit)) ≡ subframeZ keepsFirst f (rows (now (a .entry)) (now (b .entry)) (now (ar .entry)) h) (now (x .entry)) (running w (now (lpc .entry)) (now (ring .entry)) (now (ltp .entry)) (now (dgain .entry)) (now (xq .entry)) (now (shp .entry)) (now (pulses .entry)))) × (r .«smpl_buf_idx» < 40) ⌝ }
+    requires { ⌜ (Fits f × (w .«smpl_buf_idx» < 40)) × Supplied f a b ar x pulses ⌝ }
+    ensures { λ r. ⌜ (runningAt r (lpc .exit) (ring .exit) (ltp .exit) (dgain .exit) (xq .exit) (shp .exit) (pulses .exit)
+        ≡ subframeZ fullCopy f (rowsAt (a .entry) (b .entry) (ar .entry) h) (now (x .entry))
+        (runningAt w (lpc .entry) (ring .entry) (ltp .entry) (dgain .entry) (xq .entry) (shp .entry) (pulses .entry)))
+        × (r .«smpl_buf_idx» < 40) ⌝ }
 {
     let mut v = w;
     let l = f.subfr_length;

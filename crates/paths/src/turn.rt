@@ -1,10 +1,9 @@
 // One sample of a subframe: read what all paths share, take the sample, write what leaves.
 ghost use mathlib.Core.Path.{_≡_};
-ghost use Prim.Native.Nat.{_+_, _<_, _≤_};
-ghost use lib.ListN.{length};
-ghost use Rattle.path.specs.Data.{rows, running};
-ghost use Rattle.steps.specs.Among.{keepsFirst};
+ghost use Prim.Native.Nat.{_<_};
+ghost use Rattle.steps.specs.Among.{fullCopy};
 ghost use Rattle.places.specs.Places.{Fits};
+ghost use Rattle.steps.specs.Lent.{runningAt, rowsAt, Supplied};
 ghost use Rattle.steps.specs.Turn.{turn as turnZ};
 use crate::common;
 use crate::sample;
@@ -33,8 +32,11 @@ pub fn turn(
     h: Halves,
     i: usize,
 ) -> Work
-    requires { ⌜ (Fits f × (w .«smpl_buf_idx» < 40)) × (((i < f .«subfr_length») × ((16 ≤ length (now a)) × (5 ≤ length (now b)))) × ((24 ≤ length (now ar)) × ((f .base + f .«subfr_length» ≤ length (now x)) × (f .base + f .«subfr_length» ≤ length (now pulses))))) ⌝ }
-    ensures { λ r. ⌜ (running r (now (lpc .exit)) (now (ring .exit)) (now (ltp .exit)) (now (dgain .exit)) (now (xq .exit)) (now (shp .exit)) (now (pulses .exit)) ≡ turnZ keepsFirst f (rows (now (a .entry)) (now (b .entry)) (now (ar .entry)) h) (now (x .entry)) i (running w (now (lpc .entry)) (now (ring .entry)) (now (ltp .entry)) (now (dgain .entry)) (now (xq .entry)) (now (shp .entry)) (now (pulses .entry)))) × (r .«smpl_buf_idx» < 40) ⌝ }
+    requires { ⌜ (Fits f × (w .«smpl_buf_idx» < 40)) × ((i < f .«subfr_length») × Supplied f a b ar x pulses) ⌝ }
+    ensures { λ r. ⌜ (runningAt r (lpc .exit) (ring .exit) (ltp .exit) (dgain .exit) (xq .exit) (shp .exit) (pulses .exit)
+        ≡ turnZ fullCopy f (rowsAt (a .entry) (b .entry) (ar .entry) h) (now (x .entry)) i
+        (runningAt w (lpc .entry) (ring .entry) (ltp .entry) (dgain .entry) (xq .entry) (shp .entry) (pulses .entry)))
+        × (r .«smpl_buf_idx» < 40) ⌝ }
 {
     let r0 = w.smpl_buf_idx;
     let r = ring::down(r0);

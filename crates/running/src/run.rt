@@ -5,10 +5,10 @@ ghost use Prim.Native.Nat.{_*_, _<_, _≤_};
 ghost use lib.ListN.{length};
 ghost use lib.IntN.{pos};
 ghost use lib.Signed.{_≤ℤ_};
-ghost use Rattle.path.specs.Data.{running};
-ghost use Rattle.steps.specs.Among.{keepsFirst};
+ghost use Rattle.steps.specs.Among.{fullCopy};
 ghost use Rattle.steps.specs.Call.{Sound, Stocked};
-ghost use Rattle.steps.specs.Frame.{framedOf, runBy};
+ghost use Rattle.steps.specs.Frame.{runBy};
+ghost use Rattle.frame.specs.Lent.{framedAt};
 use frame::step::Frame;
 use frame::turn;
 use steps::structs::Given;
@@ -34,8 +34,13 @@ pub fn run(
     lags: &[i32],
     g: Given,
 ) -> Frame
-    requires { ⌜ ((Sound g (now lags) × Stocked g (now x) (now pred) (now long) (now ar) (now tilt) (now harm) (now lf) (now gains) (now lags)) × (g .«nb_subfr» * g .«subfr_length» ≤ length (now pulses))) × ((pos 1 ≤ℤ t .prev) × (t .work .«smpl_buf_idx» < 40)) ⌝ }
-    ensures { λ r. ⌜ (framedOf (running (r .work) (now (lpc .exit)) (now (ring .exit)) (now (ltp .exit)) (now (dgain .exit)) (now (xq .exit)) (now (shp .exit)) (now (pulses .exit))) (r .sLTP) (r .prev) ≡ runBy keepsFirst g (now (x .entry)) (now (pred .entry)) (now (long .entry)) (now (ar .entry)) (now (tilt .entry)) (now (harm .entry)) (now (lf .entry)) (now (gains .entry)) (now (lags .entry)) (g .«nb_subfr») (framedOf (running (t .work) (now (lpc .entry)) (now (ring .entry)) (now (ltp .entry)) (now (dgain .entry)) (now (xq .entry)) (now (shp .entry)) (now (pulses .entry))) (t .sLTP) (t .prev))) × (r .work .«smpl_buf_idx» < 40) ⌝ }
+    requires { ⌜ ((Sound g (now lags) × Stocked g (now x) (now pred) (now long) (now ar) (now tilt) (now harm) (now lf) (now gains) (now lags))
+        × (g .«nb_subfr» * g .«subfr_length» ≤ length (now pulses)))
+        × ((pos 1 ≤ℤ t .prev) × (t .work .«smpl_buf_idx» < 40)) ⌝ }
+    ensures { λ r. ⌜ (framedAt r (lpc .exit) (ring .exit) (ltp .exit) (dgain .exit) (xq .exit) (shp .exit) (pulses .exit)
+        ≡ runBy fullCopy g (now (x .entry)) (now (pred .entry)) (now (long .entry)) (now (ar .entry)) (now (tilt .entry)) (now (harm .entry)) (now (lf .entry)) (now (gains .entry)) (now (lags .entry))
+        (g .«nb_subfr») (framedAt t (lpc .entry) (ring .entry) (ltp .entry) (dgain .entry) (xq .entry) (shp .entry) (pulses .entry)))
+        × (r .work .«smpl_buf_idx» < 40) ⌝ }
 {
     let mut u = t;
     for k in 0..g.nb_subfr {

@@ -1,3 +1,4 @@
 pub mod Outcomes
+pub mod Rules
 pub mod Sound
 pub mod Told

@@ -21,7 +21,9 @@ swapOf c n =
       by = leastOf c 1 n;
     }
 
--- how the LPC words of a replaced path are made of its own, of those of the path that it becomes, and of the sample's place in its subframe
+-- how the LPC words of a replaced path are made of its own, of those of the path that it becomes, and of the sample's place in its subframe.
+-- Two rules have a name: the Rust's, which the entry promises, and the full copy, which the code makes. No call can tell them apart
+-- (`full_copy:full-copy`)
 abbrev pub Rule : Type 0
 Rule = List ℤ → List ℤ → ℕ → List ℤ
 
@@ -32,6 +34,10 @@ keepTurn own j row = set row j (word own j)
 -- the Rust's rule: words are copied from word i on, so the first i of its own stay
 unfoldable pub keepsFirst : Rule
 keepsFirst own by i = iter (keepTurn own) i by
+
+-- the full copy: all words are copied, and none of its own stays
+unfoldable pub fullCopy : Rule
+fullCopy own by i = by
 
 -- path `to` becomes path `by`, its LPC words by the rule
 unfoldable pub copied : Rule → ℕ → ℕ → ℕ → Paths → Paths

@@ -133,7 +133,7 @@ delayOf c = givenOf c .delay
 unfoldable pub lagBy : Given → List ℤ → ℕ → ℕ
 lagBy g lags k = either (g .voiced) (natZ (word lags k)) (g .lagPrev)
 
--- ..
+-- that lag, of a call
 abbrev pub lagOf : Call → ℕ → ℕ
 lagOf c k = lagBy (givenOf c) (c .pitchL) k
 
@@ -145,7 +145,7 @@ twiceBy g = g .voiced && g .interpolated
 unfoldable pub secondBy : Given → ℕ → Bool
 secondBy g k = twiceBy g && eqb k 2
 
--- ..
+-- whether it is that one, of a call
 abbrev pub second : Call → ℕ → Bool
 second c k = secondBy (givenOf c) k
 
@@ -153,7 +153,7 @@ second c k = secondBy (givenOf c) k
 unfoldable pub rewhitesBy : Given → ℕ → Bool
 rewhitesBy g k = either (eqb k 0) (g .voiced) (secondBy g k)
 
--- ..
+-- whether it is, of a call
 abbrev pub rewhites : Call → ℕ → Bool
 rewhites c k = rewhitesBy (givenOf c) k
 
@@ -161,7 +161,7 @@ rewhites c k = rewhitesBy (givenOf c) k
 unfoldable pub sinceBy : Given → ℕ → ℕ
 sinceBy g k = either (twiceBy g && leb 2 k) (k - 2) k
 
--- ..
+-- that number, of a call
 abbrev pub since : Call → ℕ → ℕ
 since c k = sinceBy (givenOf c) k
 
@@ -169,7 +169,7 @@ since c k = sinceBy (givenOf c) k
 unfoldable pub rowBy : Given → ℕ → ℕ
 rowBy g k = either (g .interpolated) (k / 2) 1
 
--- ..
+-- that row, of a call
 abbrev pub rowOf : Call → ℕ → ℕ
 rowOf c k = rowBy (givenOf c) k
 
@@ -195,7 +195,7 @@ fixBy g lags lf gains k =
       first = eqb (sinceBy g k) 0;
     }
 
--- ..
+-- those scalars, of a call
 abbrev pub fixOf : Call → ℕ → Fix
 fixOf c k = fixBy (givenOf c) (c .pitchL) (c .«LF_shp_Q14») (c .«Gains_Q16») k
 
@@ -208,7 +208,7 @@ halvesBy g tilt harm k =
       «HarmShapeFIRPacked_Q14» = packedGain (word harm k);
     }
 
--- ..
+-- those words, of a call
 abbrev pub halvesOf : Call → ℕ → Halves
 halvesOf c k = halvesBy (givenOf c) (c .«Tilt_Q14») (c .«HarmShapeGain_Q14») k
 
@@ -217,7 +217,7 @@ unfoldable pub rowsBy : Given → List ℤ → List ℤ → List ℤ → List �
 rowsBy g pred ltp ar tilt harm k =
     rows (take 16 (drop (rowBy g k * 16) pred)) (take 5 (drop (k * 5) ltp)) (take 24 (drop (k * 24) ar)) (halvesBy g tilt harm k)
 
--- ..
+-- those rows, of a call
 abbrev pub rowsOf : Call → ℕ → Rows
 rowsOf c k = rowsBy (givenOf c) (c .«PredCoef_Q12») (c .«LTPCoef_Q14») (c .«AR_Q13») (c .«Tilt_Q14») (c .«HarmShapeGain_Q14») k
 
@@ -226,7 +226,7 @@ unfoldable pub whiteBy : Given → ℤ → ℕ → ℤ
 whiteBy g gain k =
     either (eqb k 0) («ltp_scaled_inv_gain» («inv_gain_Q31» gain) (g .«LTP_scale_Q14»)) («inv_gain_Q31» gain)
 
--- ..
+-- that factor, of a call
 abbrev pub whiteGain : Call → ℕ → ℤ
 whiteGain c k = whiteBy (givenOf c) (word (c .«Gains_Q16») k) k
 

@@ -75,7 +75,7 @@ raisedPath p =
 unfoldable pub otherPath : ℕ → ℕ → Path → Path
 otherPath w k p = either (eqb k w) p (raisedPath p)
 
--- ..
+-- the same in the list of paths
 abbrev pub othersTurn : ℕ → ℕ → List Path → List Path
 othersTurn w k o = set o k (otherPath w k (getD o k noPath))
 

@@ -137,7 +137,7 @@ whitenedOf t row = record { run = t; sLTP = row }
 abbrev pub whitenedWith : Fix → ℤ → Running → List ℤ → Whitened
 whitenedWith f inv t row = record { run = refilled f inv row t; sLTP = row }
 
--- ..
+-- the rewhitening: the filtered row, and the work row from it
 unfoldable pub whitened : Fix → List ℤ → ℤ → Running → List ℤ → Whitened
 whitened f a inv t sltp = whitenedWith f inv t (rewhitenedAt f a (t .xq) sltp)
 
@@ -243,7 +243,7 @@ endedWith g last lag words t w =
     handedOut g lag words (t .«prev_gain_Q16») (getD (t .run .core .ps .owns) w noPath) (getD (t .run .core .ps .lpcs) w [])
     (flushedRun (g .«subfr_length») (g .delay) (fitLast last) (g .«nb_subfr» * g .«subfr_length») w (t .run))
 
--- ..
+-- with the final winner as it is found
 unfoldable pub endedBy : Given → ℤ → ℤ → List ℤ → Framed → Done
 endedBy g last lag words t = endedWith g last lag words t (bestOf (t .run .core .ps .owns) (g .nStates))
 

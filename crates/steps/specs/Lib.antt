@@ -6,6 +6,7 @@ pub mod Entry
 pub mod Flush
 pub mod Frame
 pub mod Leaving
+pub mod Lent
 pub mod Sample
 pub mod Scale
 pub mod Settled

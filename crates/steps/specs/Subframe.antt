@@ -43,7 +43,7 @@ withLpcs t lpcs =
       pulses = t .pulses;
     }
 
--- ..
+-- the last 16 LPC words of each path at its front
 unfoldable pub moveBack : Fix → Running → Running
 moveBack f t = withLpcs t (backs (f .«subfr_length») (f .«nStates») (t .core .ps .lpcs))
 

@@ -41,7 +41,7 @@ putAt f i now g p r s t =
       pulses = emit now (t .pulses) p (pulseOf (s .«Q_Q10»));
     }
 
--- ..
+-- what a settled sample writes, each word at its place
 unfoldable pub put : Fix → ℕ → Settled → Running → Running
 put f i s t =
     putAt f i (leaves f i) (word (t .core .«delayedGain_Q10») (delayed f (down (t .core .«smpl_buf_idx»)))) (f .base + i - f .«decisionDelay»)

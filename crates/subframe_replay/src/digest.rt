@@ -1,5 +1,6 @@
 // Digests of rows: FNV-1a of 32 bits, a word at a time.
-ghost use Prim.Native.Nat.{_<_};
+ghost use Prim.Native.Nat.{_+_, _<_, _≤_};
+ghost use lib.ListN.{length};
 use path::structs::Path;
 use program_words::bits;
 
@@ -47,10 +48,20 @@ pub fn print_paths(ps: [Path; 4], at: usize)
     print(h);
 }
 
-fn print_lpc(lpc: &[[i32; 96]; 4]) {
+// The LPC words of a path that count after a subframe of l samples: its first 16, and the 16 behind the samples.
+fn ends_of(start: u32, row: &[i32], l: usize) -> u32
+    requires { ⌜ (16 ≤ length (now row)) × (l + 16 ≤ length (now row)) ⌝ }
+{
+    let h = words(start, &row[0..16]);
+    words(h, &row[l..l + 16])
+}
+
+fn print_lpc(lpc: &[[i32; 96]; 4], l: usize)
+    requires { ⌜ l ≤ 80 ⌝ }
+{
     let mut h = START;
     for k in 0..4 {
-        h = words(h, &lpc[k]);
+        h = ends_of(h, &lpc[k], l);
     }
     print(h);
 }
@@ -94,8 +105,9 @@ fn print_pulses(row: &[i8]) {
     print_last(h);
 }
 
-// All rows of a subframe.
+// All rows of a subframe of l samples.
 pub fn print_rows(
+    l: usize,
     lpc: &[[i32; 96]; 4],
     ring: &[[[i32; 40]; 5]; 4],
     ltp: &[i32; 640],
@@ -103,8 +115,10 @@ pub fn print_rows(
     xq: &[i16; 640],
     shp: &[i32; 640],
     pulses: &[i8; 320],
-) {
-    print_lpc(lpc);
+)
+    requires { ⌜ l ≤ 80 ⌝ }
+{
+    print_lpc(lpc, l);
     print_rings(ring);
     print_words(ltp);
     print_words(dgain);

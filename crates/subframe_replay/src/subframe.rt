@@ -152,5 +152,14 @@ fn run(c: usize, seed: i32, f: Fix)
     );
     let ps = r.ps;
     digest::print_paths(ps, r.smpl_buf_idx);
-    digest::print_rows(&lpc, &ring, &ltp, &dgain, &xq, &shp, &pulses);
+    digest::print_rows(
+        f.subfr_length,
+        &lpc,
+        &ring,
+        &ltp,
+        &dgain,
+        &xq,
+        &shp,
+        &pulses,
+    );
 }

@@ -7,7 +7,7 @@ use borrow.Author.Needs.{needs}
 use denote.Ref.{now}
 use Rattle.fixed.specs.Iter.{iter}
 use Rattle.silk.specs.State.{zeros}
-use Rattle.steps.specs.Among.{keepsFirst}
+use Rattle.steps.specs.Among.{fullCopy}
 use Rattle.path.specs.Data.{Paths}
 use Rattle.steps.specs.Call.{Call, callOf, countOf}
 use Rattle.steps.specs.Frame.{Framed, Done, start, startPaths, subframeTurn, run, ended, frame}
@@ -77,7 +77,7 @@ returns c =
     let all = rw (e, o .0 .1, o .1 .0, o .1 .1) at (rs .rest .ensures) in
     let it = callOf (a .s) (a .state) (now (a .pred)) (now (a .long)) (now (a .ar)) (now (a .harm)) (now (a .tilt)) (now (a .lf)) (now (a .gains)) (now (a .lags)) in
     let from : Paths → Framed = λ p. startWith it (now (a .pulses)) p in
-    let ends : Framed → Done = λ t. ended it (iter (subframeTurn keepsFirst it (now (a .x))) (countOf it) t) in
+    let ends : Framed → Done = λ t. ended it (iter (subframeTurn fullCopy it (now (a .x))) (countOf it) t) in
     all ∙ ap ends (ap from began)
 
 pub coded-spec : {M : Type 1} → statement M

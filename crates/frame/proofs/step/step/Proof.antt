@@ -6,7 +6,7 @@ use denote.Ref.{now}
 use mir.Syntax.{w32}
 use Rattle.fixed.proofs.Fit.{back}
 use Rattle.path.specs.Data.{Running, running, rows}
-use Rattle.steps.specs.Among.{keepsFirst}
+use Rattle.steps.specs.Among.{fullCopy}
 use Rattle.path.proofs.Told.{fix}
 use Rattle.steps.specs.Frame.{Framed, framedOf, Whitened, coded, step}
 use Rattle.frame.proofs.step.step.Statement.{statement}
@@ -43,7 +43,7 @@ returns c =
     let gain = fix (a .f) (c .struct-told4 .given) .gain in
     let v = rows (now (a .a)) (now (a .b)) (now (a .ar)) (a .h) in
     let row = b .before2 .result .sLTP in
-    let after : Whitened → Framed = λ w. coded keepsFirst (a .f) v (now (a .x)) w in (
+    let after : Whitened → Framed = λ w. coded fullCopy (a .f) v (now (a .x)) w in (
       rw gain (
           ap (λ (r : Running). framedOf r row (a .f .«Gain_Q16»)) (sq .silk-noise-shape-quantizer-del-dec .ensures .0)
           ∙ ap after (rw (gain1, inv, prev) at (b .before2 .ensures .0 (now (a .dgain))))

@@ -5,7 +5,7 @@ use denote.Ref.{now}
 use lib.IntN.{ℤ}
 use mir.Syntax.{w32}
 use Rattle.fixed.proofs.Fit.{back}
-use Rattle.steps.specs.Among.{keepsFirst}
+use Rattle.steps.specs.Among.{keepsFirst, fullCopy}
 use Rattle.refusal_rules.specs.declared.answer.Answer.{Answer}
 use Rattle.refusal_rules.specs.Code.{codeOf}
 use Rattle.refusal_rules.proofs.Matched.{tag-code, code-refused, good-matched}
@@ -15,6 +15,7 @@ use Rattle.steps.specs.Entry.{Outcome, outcomeOf, answered, taken, outcomeBy, o
 use Rattle.steps.specs.Sizes.{sizesOf}
 use Rattle.coding.proofs.Ready.{state}
 use Rattle.steps.proofs.Outcomes.{accepted-by, refused-by}
+use Rattle.full_copy.proofs.Theorems.{full-copy}
 use Rattle.nsq.proofs.entry.silk_NSQ_del_dec.Statement.{statement}
 use Rattle.nsq.proofs.entry.silk_NSQ_del_dec.Tie as tie
 
@@ -38,6 +39,7 @@ coded-requires c κs =
 same-length : tie.Need-same-length
 same-length c = search needs
 
+-- the frame copies whole paths; the promise is by the Rust's rule, and the two outcomes are one (`full-copy`)
 returns : tie.Need-returns
 unfolding outcome answered sizesOf
 returns c =
@@ -51,9 +53,13 @@ returns c =
     let it = callOf (a .s) (a .state) (now (a .pred)) (now (a .long)) (now (a .ar)) (now (a .harm)) (now (a .tilt)) (now (a .lf)) (now (a .gains)) (now (a .lags)) in
     let r = ck .check .result in
     let zero : codeOf r ≡ 0 = sym (tag-code r) ∙ keys .match .keys1 in
-    let by : Answer → Outcome = λ n. outcomeBy keepsFirst it (now (a .x)) (now (a .pulses)) n in
+    let by : Answer → Outcome = λ n. outcomeBy fullCopy it (now (a .x)) (now (a .pulses)) n in
     let seed = back w32 (cd .coded .result .seed) (c .struct-told3 .given .0 .1) in
-    rw seed (ap (λ (d : Done). taken r d) (cd .coded .ensures) ∙ sym (accepted-by keepsFirst it (now (a .x)) (now (a .pulses)) r zero) ∙ ap by e)
+    rw seed
+    (ap (λ (d : Done). taken r d) (cd .coded .ensures)
+    ∙ sym (accepted-by fullCopy it (now (a .x)) (now (a .pulses)) r zero)
+    ∙ ap by e
+    ∙ sym (full-copy it (now (a .x)) (now (a .pulses))))
 
 returns-2 : tie.Need-returns-2
 unfolding outcome answered sizesOf

@@ -5,7 +5,7 @@ use denote.Ref.{now}
 use Rattle.path.specs.declared.structs.Moves.{Moves}
 use Rattle.path.specs.Data.{Paths, paths}
 use Rattle.steps.specs.Each.{moves, pairs}
-use Rattle.steps.specs.Among.{keepsFirst}
+use Rattle.steps.specs.Among.{fullCopy}
 use Rattle.steps.specs.Settled.{settled, Settled}
 use Rattle.steps.specs.Sample.{sample, tried}
 use Rattle.paths.proofs.sample.sample.Statement.{statement}
@@ -29,7 +29,7 @@ returns c =
     let n = a .f .«nStates» in
     let l = now (a .lpc) in
     let g = now (a .ring) in
-    let from : Moves → Settled = λ m. settled keepsFirst (pairs (a .f) (now (a .a)) (a .s) (a .i) (a .r0) m l g) n (a .i) (a .r) (a .last) (paths (m .owns) l g) in
+    let from : Moves → Settled = λ m. settled fullCopy (pairs (a .f) (now (a .a)) (a .s) (a .i) (a .r0) m l g) n (a .i) (a .r) (a .last) (paths (m .owns) l g) in
     c .settled .ensures ∙ rw (pp .pairs .ensures) (ap from (pm .moves .ensures))
 
 pub sample-spec : {M : Type 1} → statement M

@@ -3,7 +3,7 @@ use mathlib.Core.Path.{_≡_, ap, _∙_}
 use borrow.Author.Needs.{needs}
 use denote.Ref.{now}
 use Rattle.path.specs.Data.{Paths, paths}
-use Rattle.steps.specs.Among.{replaced, keepsFirst}
+use Rattle.steps.specs.Among.{replaced, fullCopy}
 use Rattle.steps.specs.Settled.{settled, replacing, Settled, leaving}
 use Rattle.paths.proofs.sample.settled.Statement.{statement}
 use Rattle.paths.proofs.sample.settled.Tie as tie
@@ -37,7 +37,7 @@ returns c =
     let a = pl .before .args in
     let leave : Paths → Settled = leaving (po .moved-over .result) (a .n) (a .i) (a .r) (a .last) (pl .least .result) in
     c .leaving .ensures
-    ∙ ap leave (pr .replaced .ensures)
+    ∙ ap leave (pr .replaced .ensures (a .i))
     ∙ simp (po .moved-over .ensures, ps .swap-of .ensures .0, pp .penalised .ensures, pl .least .ensures .0)
 
 pub settled-spec : {M : Type 1} → statement M

@@ -10,7 +10,7 @@ use lib.ListN.{length}
 use Rattle.fixed.specs.Iter.{iter}
 use Rattle.fixed.proofs.Iters.{iter-more}
 use Rattle.path.specs.Data.{running, rows, Running}
-use Rattle.steps.specs.Among.{keepsFirst}
+use Rattle.steps.specs.Among.{fullCopy}
 use Rattle.steps.specs.Subframe.{subframe, moveBack, withLpcs}
 use Rattle.steps.specs.Turn.{turn}
 use Rattle.paths.proofs.subframe.silk_noise_shape_quantizer_del_dec.Statement.{statement}
@@ -19,7 +19,7 @@ use Rattle.paths.proofs.subframe.silk_noise_shape_quantizer_del_dec.Tie
 abbrev Inv-loop : tie.InvT-loop
 Inv-loop lpc₀ ring₀ ltp₀ dgain₀ xq₀ shp₀ pulses₀ x a b ar f h v₀ l i₀ lpc ring ltp dgain xq shp pulses v i =
     ((i ≤ l) × ((length pulses ≡ length pulses₀) × (v .«smpl_buf_idx» < 40)))
-    × (running v lpc ring ltp dgain xq shp pulses ≡ iter (turn keepsFirst f (rows a b ar h) x) i (running v₀ lpc₀ ring₀ ltp₀ dgain₀ xq₀ shp₀ pulses₀))
+    × (running v lpc ring ltp dgain xq shp pulses ≡ iter (turn fullCopy f (rows a b ar h) x) i (running v₀ lpc₀ ring₀ ltp₀ dgain₀ xq₀ shp₀ pulses₀))
 
 abbrev μ-loop : tie.MeasureT-loop
 μ-loop lpc₀ ring₀ ltp₀ dgain₀ xq₀ shp₀ pulses₀ x a b ar f h v₀ l i₀ lpc ring ltp dgain xq shp pulses v i = l - i
@@ -49,7 +49,7 @@ loop-again c =
     let o = l .loop in
     let p = running (o .v) (o .lpc) (o .ring) (o .ltp) (o .dgain) (o .xq) (o .shp) (o .pulses) in (
       (omega (arith, z .loop-test .taken), (t .turn .kept .1 .1 .1 .1 .1 .1 .1 .0 ∙ o .inv .0 .1 .0, t .turn .ensures .1)),
-      t .turn .ensures .0 ∙ iter-more (turn keepsFirst (a .f) (rows (now (a .a)) (now (a .b)) (now (a .ar)) (a .h)) (now (a .x))) _ p _ (o .inv .1),
+      t .turn .ensures .0 ∙ iter-more (turn fullCopy (a .f) (rows (now (a .a)) (now (a .b)) (now (a .ar)) (a .h)) (now (a .x))) _ p _ (o .inv .1),
     )
 
 backs-requires : tie.Need-backs-requires Inv-loop μ-loop
@@ -66,7 +66,7 @@ returns c =
     let o = l .loop in
     let p = running (o .v) (o .lpc) (o .ring) (o .ltp) (o .dgain) (o .xq) (o .shp) (o .pulses) in
     let start = running (a .w) (now (a .lpc)) (now (a .ring)) (now (a .ltp)) (now (a .dgain)) (now (a .xq)) (now (a .shp)) (now (a .pulses)) in
-    let turns : ℕ → Running = λ n. iter (turn keepsFirst (a .f) (rows (now (a .a)) (now (a .b)) (now (a .ar)) (a .h)) (now (a .x))) n start in
+    let turns : ℕ → Running = λ n. iter (turn fullCopy (a .f) (rows (now (a .a)) (now (a .b)) (now (a .ar)) (a .h)) (now (a .x))) n start in
     let e : o .i ≡ a .f .«subfr_length» = omega arith in (
       ap (λ (w : List (List ℤ)). withLpcs p w) (c .backs .ensures) ∙ ap (moveBack (a .f)) (o .inv .1 ∙ ap turns e),
       o .inv .0 .1 .1,

@@ -9,7 +9,7 @@ use Rattle.fixed.proofs.Fit.{back, got32}
 use Rattle.path.specs.declared.structs.Common.{Common}
 use Rattle.fixed.specs.Row.{word}
 use Rattle.path.specs.Data.{Running, running, rows}
-use Rattle.steps.specs.Among.{keepsFirst}
+use Rattle.steps.specs.Among.{fullCopy}
 use Rattle.steps.specs.Settled.{Settled}
 use Rattle.path.proofs.Told.{sampled, fix, halves}
 use Rattle.steps.specs.Turn.{putAt}
@@ -92,9 +92,9 @@ returns c =
       written (a .f) (a .i) (leaves (a .f) (a .i)) w (a .f .base + a .i - a .f .«decisionDelay») r (m .sample .result) start _ _ _ _ _ _ _
           (record { work = u .0; gain = rw q; history = u .1 .0; shaping = u .1 .1 .0; pulse = u .1 .1 .1 })
           ∙ ap after (m .sample .ensures)
-          ∙ ap (λ (z : Common). turnWith keepsFirst (a .f) v (a .i) start r z) o
-          ∙ ap (λ (j : ℕ). turnWith keepsFirst (a .f) v (a .i) start j shared) (n .down .ensures .0)
-          ∙ turn-is keepsFirst (a .f) v (now (a .x)) (a .i) start,
+          ∙ ap (λ (z : Common). turnWith fullCopy (a .f) v (a .i) start r z) o
+          ∙ ap (λ (j : ℕ). turnWith fullCopy (a .f) v (a .i) start j shared) (n .down .ensures .0)
+          ∙ turn-is fullCopy (a .f) v (now (a .x)) (a .i) start,
       n .down .ensures .1,
     )
 

@@ -10,7 +10,7 @@ use lib.Signed.{_≤ℤ_}
 use Rattle.fixed.specs.Iter.{iter}
 use Rattle.fixed.proofs.Iters.{iter-more}
 use Rattle.path.specs.Data.{running}
-use Rattle.steps.specs.Among.{keepsFirst}
+use Rattle.steps.specs.Among.{fullCopy}
 use Rattle.steps.specs.Frame.{Framed, framedOf, turnBy}
 use Rattle.running.proofs.run.run.Statement.{statement}
 use Rattle.running.proofs.run.run.Tie as tie
@@ -19,7 +19,7 @@ abbrev Inv-loop : tie.InvT-loop
 Inv-loop lpc₀ ring₀ ltp₀ dgain₀ xq₀ shp₀ pulses₀ x pred long ar tilt harm lf gains lags g u₀ k₀ k-end lpc ring ltp dgain xq shp pulses u k =
     (((k ≤ k-end) × (k-end ≡ g .«nb_subfr»)) × ((length pulses ≡ length pulses₀) × ((pos 1 ≤ℤ u .prev) × (u .work .«smpl_buf_idx» < 40))))
     × (framedOf (running (u .work) lpc ring ltp dgain xq shp pulses) (u .sLTP) (u .prev)
-    ≡ iter (turnBy keepsFirst g x pred long ar tilt harm lf gains lags) k (framedOf (running (u₀ .work) lpc₀ ring₀ ltp₀ dgain₀ xq₀ shp₀ pulses₀) (u₀ .sLTP) (u₀ .prev)))
+    ≡ iter (turnBy fullCopy g x pred long ar tilt harm lf gains lags) k (framedOf (running (u₀ .work) lpc₀ ring₀ ltp₀ dgain₀ xq₀ shp₀ pulses₀) (u₀ .sLTP) (u₀ .prev)))
 
 abbrev μ-loop : tie.MeasureT-loop
 μ-loop lpc₀ ring₀ ltp₀ dgain₀ xq₀ shp₀ pulses₀ x pred long ar tilt harm lf gains lags g u₀ k₀ k-end lpc ring ltp dgain xq shp pulses u k =
@@ -55,7 +55,7 @@ loop-again c =
     let o = l .loop in
     let u = framedOf (running (o .u .work) (o .lpc) (o .ring) (o .ltp) (o .dgain) (o .xq) (o .shp) (o .pulses)) (o .u .sLTP) (o .u .prev) in
     let v = o .inv .0 in
-    let one = turnBy keepsFirst (a .g) (now (a .x)) (now (a .pred)) (now (a .long)) (now (a .ar)) (now (a .tilt)) (now (a .harm)) (now (a .lf)) (now (a .gains)) (now (a .lags)) in (
+    let one = turnBy fullCopy (a .g) (now (a .x)) (now (a .pred)) (now (a .long)) (now (a .ar)) (now (a .tilt)) (now (a .harm)) (now (a .lf)) (now (a .gains)) (now (a .lags)) in (
       ((omega (arith, z .loop-test .taken), refl), (t .turn .kept .1 .1 .1 .1 .1 .1 .1 .0 ∙ v .1 .0, t .turn .ensures .1)),
       t .turn .ensures .0 ∙ iter-more one _ u _ (o .inv .1),
     )
@@ -69,7 +69,7 @@ returns c =
     let a = l .before .args in
     let o = l .loop in
     let start = framedOf (running (a .t .work) (now (a .lpc)) (now (a .ring)) (now (a .ltp)) (now (a .dgain)) (now (a .xq)) (now (a .shp)) (now (a .pulses))) (a .t .sLTP) (a .t .prev) in
-    let turns : ℕ → Framed = λ n. iter (turnBy keepsFirst (a .g) (now (a .x)) (now (a .pred)) (now (a .long)) (now (a .ar)) (now (a .tilt)) (now (a .harm)) (now (a .lf)) (now (a .gains)) (now (a .lags))) n start in
+    let turns : ℕ → Framed = λ n. iter (turnBy fullCopy (a .g) (now (a .x)) (now (a .pred)) (now (a .long)) (now (a .ar)) (now (a .tilt)) (now (a .harm)) (now (a .lf)) (now (a .gains)) (now (a .lags))) n start in
     let e : o .k ≡ a .g .«nb_subfr» = omega arith in
     (o .inv .1 ∙ ap turns e, o .inv .0 .1 .1 .1)
 

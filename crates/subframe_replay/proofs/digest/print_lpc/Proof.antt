@@ -5,22 +5,22 @@ use Rattle.subframe_replay.proofs.digest.print_lpc.Statement.{statement
 use Rattle.subframe_replay.proofs.digest.print_lpc.Tie as tie
 
 abbrev Inv-loop : tie.InvT-loop
-Inv-loop lpc h₀ k₀ h k = k ≤ 4
+Inv-loop lpc l h₀ k₀ h k = k ≤ 4
 
 abbrev μ-loop : tie.MeasureT-loop
-μ-loop lpc h₀ k₀ h k = 4 - k
+μ-loop lpc l h₀ k₀ h k = 4 - k
 
 loop-holds : tie.Need-loop-holds Inv-loop μ-loop
 loop-holds c = search needs
 
-mul-words : tie.Need-mul-words Inv-loop μ-loop
-mul-words c = search needs
+mul-ends-of : tie.Need-mul-ends-of Inv-loop μ-loop
+mul-ends-of c = search needs
 
-index-1-words : tie.Need-index-1-words Inv-loop μ-loop
-index-1-words c = search needs
+index-1-ends-of : tie.Need-index-1-ends-of Inv-loop μ-loop
+index-1-ends-of c = search needs
 
-words-requires : tie.Need-words-requires Inv-loop μ-loop
-words-requires c κs = search needs
+ends-of-requires : tie.Need-ends-of-requires Inv-loop μ-loop
+ends-of-requires c κs = search needs
 
 add-k : tie.Need-add-k Inv-loop μ-loop
 add-k c = search needs
@@ -44,9 +44,9 @@ print-lpc-spec =
     Inv-loop
     μ-loop
     loop-holds
-    mul-words
-    index-1-words
-    words-requires
+    mul-ends-of
+    index-1-ends-of
+    ends-of-requires
     add-k
     loop-less
     loop-again

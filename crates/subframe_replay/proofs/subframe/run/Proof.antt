@@ -45,7 +45,10 @@ print-paths-requires : tie.Need-print-paths-requires
 print-paths-requires c κs = search needs
 
 print-rows-requires : tie.Need-print-rows-requires
-print-rows-requires c κs = search needs
+print-rows-requires c κs =
+    let made = c .before .before .before .before .before .before .before .before .before .before in
+    let start = made .before .before .before .before .before .before .before .before .before .before .before .before .before .before .before .before .before .before .before .before .before .before in
+    start .pre .0 .short
 
 returns : tie.Need-returns
 returns c = search needs
