@@ -1,4 +1,3 @@
--- Fills: loops that write one place at each turn. Analysis: what the filter leaves in each place. Unique: the contract leaves one outcome.
-pub mod Fills
+-- Analysis: what the filter leaves in each place. Unique: the contract leaves one outcome.
 pub mod Analysis
 pub mod Unique

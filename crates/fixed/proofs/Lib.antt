@@ -1,9 +1,10 @@
 -- Laws for this crate's proofs and for the crates above. Lin: linear arithmetic on ℤ. Wraps: what wraps. Floors: shifts and
--- rounding. Fit: what fits a width. Bounds: ranges. Iters: loops. Unique: one outcome.
+-- rounding. Fit: what fits a width. Bounds: ranges. Iters: loops. Fills: loops that write one place at each turn. Unique: one outcome.
 pub mod Lin
 pub mod Wraps
 pub mod Floors
 pub mod Fit
 pub mod Bounds
 pub mod Iters
+pub mod Fills
 pub mod Unique
