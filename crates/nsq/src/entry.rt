@@ -28,7 +28,10 @@ pub fn silk_NSQ_del_dec(
     gains: &[i32],
     lags: &[i32],
 ) -> Answered
-    ensures { λ r. ⌜ outcomeOf (r .answer) (r .seed) (r .state) (now (pulses .exit)) ≡ outcome keepsFirst (callOf s state (now (pred .entry)) (now (long .entry)) (now (ar .entry)) (now (harm .entry)) (now (tilt .entry)) (now (lf .entry)) (now (gains .entry)) (now (lags .entry))) (now (x .entry)) (now (pulses .entry)) ⌝ }
+    ensures { λ r. ⌜ outcomeOf (r .answer) (r .seed) (r .state) (now (pulses .exit))
+        ≡ outcome keepsFirst
+        (callOf s state (now (pred .entry)) (now (long .entry)) (now (ar .entry)) (now (harm .entry)) (now (tilt .entry)) (now (lf .entry)) (now (gains .entry)) (now (lags .entry)))
+        (now (x .entry)) (now (pulses .entry)) ⌝ }
 {
     let z = Sizes {
         samples: x.len(),
