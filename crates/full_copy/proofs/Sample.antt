@@ -43,14 +43,14 @@ paths-map f w =
     record { owns = w .owns; rings = w .rings; lpcs = record { len = w .lpcs .len; at = λ k h. f k h _ _ (w .lpcs .at k h) } }
 
 -- ---- the candidates: sixteen words are read, or ten
-taps-few : (order : ℕ) → tapCount order ≤ 16
-taps-few order = either-all (λ (m : ℕ). m ≤ 16) (eqb order 16) 16 10 (λ e. omega arith) (λ e. omega arith)
+taps-most : (order : ℕ) → tapCount order ≤ 16
+taps-most order = either-all (λ (m : ℕ). m ≤ 16) (eqb order 16) 16 10 (λ e. omega arith) (λ e. omega arith)
 
 short-win : (s t a : List ℤ) (i order : ℕ) → Win i (16 + i) s t → shortPrediction s (15 + i) a order ≡ shortPrediction t (15 + i) a order
 unfolding shortPrediction
 short-win s t a i order r =
     iter-same (tap s (15 + i) a) (tap t (15 + i) a) (tapCount order) (pos (order / 2))
-    (λ j h acc. rw (r .at (15 + i - j) (omega (arith, taps-few order)) (omega arith)) refl)
+    (λ j h acc. rw (r .at (15 + i - j) (omega (arith, taps-most order)) (omega arith)) refl)
 
 terms-win : (f : Fix) (a : List ℤ) (c : Common) (i r0 : ℕ) (p : Path) (n : ℤ) (s t : List ℤ) (ring : List (List ℤ)) → Win i (16 + i) s t
     → termsOf f a c i r0 p n s ring ≡ termsOf f a c i r0 p n t ring

@@ -10,15 +10,12 @@ use lib.Dec.{eqb}
 use borrow.Author.Tests.{eqb-true, eqb-false}
 use Rattle.fixed.specs.Row.{word}
 use Rattle.refusal_rules.specs.Code.{codeOf}
-use Rattle.refusal_rules.proofs.Matched.{code-accepted}
-use Rattle.refusal_rules.proofs.Accept.{good}
 use Rattle.steps.specs.Among.{Rule, keepsFirst, fullCopy}
 use Rattle.steps.specs.Call.{Call, givenOf}
 use Rattle.steps.specs.Entry.{taken, answered, outcomeBy, outcome}
-use Rattle.steps.specs.Sizes.{sizesOf}
 use Rattle.steps.proofs.Rules.{kept-length, kept-from, full-copy-is}
 use Rattle.steps.proofs.Sound.{sound-of}
-use Rattle.steps.proofs.Outcomes.{accepted-by, refused-by}
+use Rattle.steps.proofs.Outcomes.{outcome-is, accepted-good, accepted-by, refused-by}
 use Rattle.full_copy.specs.Copy.{Copies, later}
 use Rattle.full_copy.proofs.Frame.{frame-win}
 
@@ -38,13 +35,7 @@ full-copy-copies =
 
 -- ---- an accepted call has a path
 some-path : (c : Call) (x out : List ℤ) → codeOf (answered c x out) ≡ 0 → 0 < givenOf c .nStates
-unfolding answered
-some-path c x out e =
-    sound-of c (good (c .settings) (sizesOf c x out) (c .state .lagPrev) (c .state .«prev_gain_Q16») (c .«Gains_Q16») (c .pitchL) (code-accepted _ e)) .paths1
-
-outcome-is : (rule : Rule) (c : Call) (x out : List ℤ) → outcome rule c x out ≡ outcomeBy rule c x out (answered c x out)
-unfolding outcome
-outcome-is rule c x out = refl
+some-path c x out e = sound-of c (accepted-good c x out e) .paths1
 
 -- ---- any two rules that copy from word i + 1 on: the same answer, pulses, seed and state, each word of them, for every call
 pub same-by-rules : (r r′ : Rule) → Copies r → Copies r′ → (c : Call) (x out : List ℤ) → outcome r c x out ≡ outcome r′ c x out
