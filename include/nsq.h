@@ -1,10 +1,10 @@
 /* The SILK noise shaping quantiser with delayed decision, proved. Link target/staticlib/libnsq_c.a, which tools/build-lib
  * writes, into an x86-64 Linux program (gcc program.c -Iinclude target/staticlib/libnsq_c.a).
  *
- * Both functions may be called with anything: they hold no state of their own, keep no pointer, allocate nothing and ask nothing
+ * All functions may be called with anything: they hold no state of their own, keep no pointer, allocate nothing and ask nothing
  * of their numbers. Each row is a pointer and its length IN ELEMENTS. What the caller owes is what C cannot check:
  *   - behind each pointer there are as many elements as its length says (length 0: any pointer, NULL too, nothing is read);
- *   - rows that are written (settings, samples, words, pulses) overlap no other row of the same call.
+ *   - rows that are written (settings, samples, words, pulses, excitation) overlap no other row of the same call.
  * A call may run at the same time as others on other rows. */
 #ifndef NSQ_H
 #define NSQ_H
@@ -88,6 +88,22 @@ uint32_t nsq_del_dec(int32_t *settings, size_t settings_len,
                      const int32_t *lf, size_t lf_len,
                      const int32_t *gains, size_t gains_len,
                      const int32_t *lags, size_t lags_len);
+
+/* What nsq_excitation answers. The lowest number that applies is given. A refusal (not 0) leaves the row as it was. */
+enum {
+    NSQ_HEARD = 0,
+    NSQ_HEARD_BAD_SEED = 1, /* seed not 0 to 3 */
+    NSQ_HEARD_BAD_KIND = 2, /* signal type not 0 to 2, or offset type not 0 or 1 */
+    NSQ_HEARD_BAD_ROW = 3   /* the two rows differ in length, or are longer than 320 */
+};
+
+/* What the far end hears: the excitation that a decoder makes of a frame's pulses (RFC 6716, 4.2.7.8.6), one value e_Q23 for each pulse.
+ * Any pulses, and any length from 0 to 320 that both rows have. The seed is the one that the frame is coded with, which is
+ * settings[NSQ_SEED] after nsq_del_dec; the signal type and the offset type are those of the settings. Where the frame was coded with one
+ * path, each value is a 64th of the excitation (Q14) that the quantiser used at that sample. */
+uint32_t nsq_excitation(const int8_t *pulses, size_t pulses_len,
+                        int32_t seed, int32_t signal_type, int32_t offset_type,
+                        int32_t *excitation, size_t excitation_len);
 
 #ifdef __cplusplus
 }

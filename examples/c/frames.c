@@ -1,4 +1,5 @@
-/* Codes three frames of a tone, the state handed from one to the next, and prints the pulses. After tools/build-lib:
+/* Codes three frames of a tone, the state handed from one to the next, and prints the pulses and the first ten values of the excitation that
+ * the far end makes of them. After tools/build-lib:
  *   gcc -O2 -Iinclude examples/c/frames.c target/staticlib/libnsq_c.a -o target/frames && target/frames */
 #include "nsq.h"
 #include <stdio.h>
@@ -10,6 +11,7 @@ int main(void)
     int16_t samples[NSQ_SAMPLES], x[N], pred[32] = {0}, ltp[5 * 2] = {0}, ar[24 * 2] = {0};
     int32_t words[NSQ_WORDS], harm[2] = {0, 0}, tilt[2] = {-2000, -2000}, lf[2] = {0, 0};
     int32_t gains[2] = {65536 * 400, 65536 * 400}, lags[2] = {0, 0};
+    int32_t excitation[N];
     int8_t pulses[N];
 
     pred[0] = pred[16] = 3000; /* predict each sample as 3000 / 4096 of the one before */
@@ -29,6 +31,13 @@ int main(void)
             return 1;
         for (int i = 0; i < N; i++)
             printf("%d%c", pulses[i], i % 20 == 19 ? '\n' : ' ');
+        answer = nsq_excitation(pulses, N, settings[NSQ_SEED], settings[NSQ_SIGNAL_TYPE], settings[NSQ_QUANT_OFFSET_TYPE], excitation, N);
+        if (answer != NSQ_HEARD)
+            return 1;
+        printf("heard:");
+        for (int i = 0; i < 10; i++)
+            printf(" %d", (int)excitation[i]);
+        printf(" ..\n");
     }
     return 0;
 }

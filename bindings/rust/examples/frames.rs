@@ -1,6 +1,7 @@
-//! Codes three frames of a tone, the state handed from one to the next, and prints the pulses. After tools/build-lib:
+//! Codes three frames of a tone, the state handed from one to the next, and prints the pulses and the first ten values of the excitation that
+//! the far end makes of them. After tools/build-lib:
 //!   cargo run --manifest-path bindings/rust/Cargo.toml --example frames
-use nsq::{Rows, Settings, State};
+use nsq::{excitation, Rows, Settings, State};
 
 const L: usize = 40;
 const N: usize = 2 * L;
@@ -23,12 +24,18 @@ fn main() {
             tilt_q14: &[-2000; 2], lf_shp_q14: &[0; 2], gains_q16: &[65536 * 400; 2], pitch_l: &[0; 2],
         };
         let mut pulses = [0i8; N];
-        match state.code(&settings, &rows, &mut pulses) {
-            Ok(seed) => println!("frame {}: answer 0, seed {}", frame, seed),
+        let seed = match state.code(&settings, &rows, &mut pulses) {
+            Ok(seed) => seed,
             Err(why) => return println!("frame {}: answer {}", frame, why as u32),
-        }
+        };
+        println!("frame {}: answer 0, seed {}", frame, seed);
         for line in pulses.chunks(20) {
             println!("{}", line.iter().map(|p| p.to_string()).collect::<Vec<_>>().join(" "));
         }
+        let mut heard = [0i32; N];
+        if let Err(why) = excitation(&pulses, seed, settings.signal_type, settings.quant_offset_type, &mut heard) {
+            return println!("heard: answer {}", why as u32);
+        }
+        println!("heard: {} ..", heard[..10].iter().map(|e| e.to_string()).collect::<Vec<_>>().join(" "));
     }
 }

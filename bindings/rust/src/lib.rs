@@ -2,7 +2,7 @@
 //!
 //! A [`State`] holds what one frame leaves for the next; [`State::code`] codes a frame by [`Settings`] and [`Rows`] and writes its
 //! pulses. The lengths of the rows are tested here, before the call, and again by the library: a wrong one is [`Refusal::Row`]. A refused
-//! call leaves the state and the pulses as they were.
+//! call leaves the state and the pulses as they were. [`excitation`] is what the far end makes of a frame's pulses.
 #![deny(missing_docs)]
 
 mod ffi;
@@ -160,5 +160,29 @@ impl State {
             7 => Err(Refusal::Lag),
             _ => Err(Refusal::Row),
         }
+    }
+}
+
+/// Why [`excitation`] was refused. The lowest number that applies is given.
+#[derive(Clone, Copy, Debug, PartialEq, Eq)]
+#[repr(u32)]
+pub enum HeardRefusal {
+    /// The seed is not 0 to 3.
+    Seed = 1,
+    /// The signal type is not 0 to 2, or the offset type is not 0 or 1.
+    Kind = 2,
+    /// The two rows differ in length, or are longer than 320.
+    Row = 3,
+}
+
+/// What the far end hears: writes the excitation (Q23) that a decoder makes of a frame's pulses, one value for each (RFC 6716, 4.2.7.8.6).
+/// Any pulses, and any length from 0 to 320 that both rows have. `seed` is the one that [`State::code`] handed back, `signal_type` and
+/// `offset_type` are those of the settings. Refused, the row is as it was.
+pub fn excitation(pulses: &[i8], seed: i32, signal_type: i32, offset_type: i32, row: &mut [i32]) -> Result<(), HeardRefusal> {
+    match ffi::excitation(pulses, seed, signal_type, offset_type, row) {
+        0 => Ok(()),
+        1 => Err(HeardRefusal::Seed),
+        2 => Err(HeardRefusal::Kind),
+        _ => Err(HeardRefusal::Row),
     }
 }

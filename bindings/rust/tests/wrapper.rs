@@ -1,5 +1,5 @@
 //! The wrapper: every refusal, wrong lengths of every row, and what a call does to state and pulses.
-use nsq::{Refusal, Rows, Settings, State, SAMPLES, WORDS};
+use nsq::{excitation, HeardRefusal, Refusal, Rows, Settings, State, SAMPLES, WORDS};
 
 fn settings(l: i32, n: i32) -> Settings {
     Settings {
@@ -133,4 +133,44 @@ fn gains_and_lags_are_refused() {
         }
     }
     assert_eq!((SAMPLES, WORDS), (640, 767));
+}
+
+#[test]
+fn excitation_by_hand() {
+    // generator 907633515 first, whose bit 31 is clear; 256 - 20 + 25 negated; -256 + 20 + 25 kept; 512 - 20 + 25 and -512 + 20 + 25 negated
+    let mut row = [0i32; 5];
+    assert_eq!(excitation(&[0, 1, -1, 2, -2], 0, 0, 0, &mut row), Ok(()));
+    assert_eq!(row, [25, -261, -211, -517, 467]);
+    assert_eq!(excitation(&[], 3, 2, 1, &mut []), Ok(()));
+}
+
+#[test]
+fn excitation_is_refused() {
+    let mut row = vec![77i32; 321];
+    let mut try_it = |why, pulses: usize, len: usize, seed, signal_type, offset_type| {
+        assert_eq!(excitation(&vec![1; pulses], seed, signal_type, offset_type, &mut row[..len]), Err(why));
+        assert!(row.iter().all(|&e| e == 77));
+    };
+    for seed in [-1, 4, 256, i32::MIN, i32::MAX] {
+        try_it(HeardRefusal::Seed, 3, 4, seed, 3, 2);
+    }
+    for (signal_type, offset_type) in [(-1, 0), (3, 0), (65538, 0), (0, -1), (0, 2), (2, 256)] {
+        try_it(HeardRefusal::Kind, 3, 4, 3, signal_type, offset_type);
+    }
+    for (pulses, len) in [(0, 1), (1, 0), (80, 79), (320, 321), (321, 321), (321, 320)] {
+        try_it(HeardRefusal::Row, pulses, len, 0, 2, 1);
+    }
+}
+
+#[test]
+fn a_coded_frame_is_heard() {
+    // each value is its pulse's level but for the sign
+    let s = settings(80, 4);
+    let (own, mut state, mut pulses, mut row) = (Own::new(&s), State::fresh(), [0i8; 320], [0i32; 320]);
+    let seed = state.code(&s, &own.rows(), &mut pulses).unwrap();
+    assert_eq!(excitation(&pulses, seed, s.signal_type, s.quant_offset_type, &mut row), Ok(()));
+    for (p, e) in pulses.iter().zip(row) {
+        let size = 256 * i32::from(*p) - 20 * i32::from(p.signum()) + 25;
+        assert_eq!(e.abs(), size.abs());
+    }
 }

@@ -52,10 +52,17 @@ offset-is-rfc (suc (suc zero)) (suc (suc n)) h k = absurd (omega arith)
 offset-is-rfc (suc (suc (suc n))) zero h k = absurd (omega arith)
 offset-is-rfc (suc (suc (suc n))) (suc m) h k = absurd (omega arith)
 
-value-lin : (o p : ℤ) → P (value o p) + (256 * N p + N o + 20 * P (sign p)) ≡ N (value o p) + (256 * P p + P o + 20 * N (sign p))
+-- the RFC's value by its parts
+pub value-lin : (o p : ℤ) → P (value o p) + (256 * N p + N o + 20 * P (sign p)) ≡ N (value o p) + (256 * P p + P o + 20 * N (sign p))
 unfolding value
 value-lin o p =
     omega (arith, times-lin 256 p, times-lin 20 (sign p), sub-lin-Z (p *ℤ pos 256) (sign p *ℤ pos 20), add-lin (p *ℤ pos 256 -ℤ sign p *ℤ pos 20) o)
+
+-- a sign is -1, 0 or 1
+pub sign-size : (p : ℤ) → (P (sign p) ≤ 1) × (N (sign p) ≤ 1)
+sign-size (pos zero) = omega arith
+sign-size (pos (suc n)) = omega arith
+sign-size (negsuc n) = omega arith
 
 lean-sign : (p : ℤ) → (P (lean p) ≡ 80 * P (sign p)) × (N (lean p) ≡ 80 * N (sign p))
 lean-sign (pos zero) = omega arith
@@ -124,11 +131,10 @@ pub turned-is-rfc : (seed z : ℤ) → SFits w32 seed → SFits w32 (negℤ z) �
 unfolding turned signed
 turned-is-rfc seed z f g = rw (sign-is-rfc seed f, wrap32-id g)
 
--- the seed after the pulse of a level, for every seed and level
-pub seed-is-rfc : (seed level : ℤ) → modZ (seedWith seed level) (2 ^ 32) ≡ seedAfter (modZ seed (2 ^ 32)) (pulseOf level)
-unfolding seedWith seedAfter
-seed-is-rfc seed level =
-    let x = pulseOf level in
+-- a pulse added to the generator's word, for every word and every whole number
+pub added-is-rfc : (seed x : ℤ) → modZ (wrap32 (seed +ℤ x)) (2 ^ 32) ≡ seedAfter (modZ seed (2 ^ 32)) x
+unfolding seedAfter
+added-is-rfc seed x =
     let u = modZ seed (2 ^ 32) in
     let k = shrZ seed (2 ^ 32) in
     let l = shr-lin seed (2 ^ 32) (lit< tt) in
@@ -137,6 +143,11 @@ seed-is-rfc seed level =
     let s = shrZ (pos u +ℤ x) (2 ^ 32) in
     let t = shr-lin (pos u +ℤ x) (2 ^ 32) (lit< tt) in
     sym (word-mod (modZ (pos u +ℤ x) (2 ^ 32)) (P k + P s) (N k + N s) (seed +ℤ x) (mod-lin (pos u +ℤ x) (2 ^ 32) (lit< tt)) (omega arith))
+
+-- the seed after the pulse of a level, for every seed and level
+pub seed-is-rfc : (seed level : ℤ) → modZ (seedWith seed level) (2 ^ 32) ≡ seedAfter (modZ seed (2 ^ 32)) (pulseOf level)
+unfolding seedWith
+seed-is-rfc seed level = added-is-rfc seed (pulseOf level)
 
 -- the excitation of a pulse from -32 to 31 is 64 times the RFC's value, after the same sign step
 pub excitation-is-rfc : (seed o p : ℤ) → SFits w32 seed → pos 8 ≤ℤ o → o ≤ℤ pos 60 → negsuc 31 ≤ℤ p → p ≤ℤ pos 31
@@ -156,13 +167,9 @@ excitation-is-rfc seed o p f a b c d =
     ap (λ (z : ℤ). z *ℤ pos 16) (level-is-rfc o p) ∙ eq-of (v *ℤ pos 4 *ℤ pos 16) (v *ℤ pos 64) (omega (arith, times-lin 4 v, times-lin 16 (v *ℤ pos 4))) in
     ap (turned seed) (ap wrap32 e ∙ wrap32-id (sfits-of-lin w32 (v *ℤ pos 64) (omega arith) (omega arith)))
     ∙ turned-is-rfc seed (v *ℤ pos 64) f (sfits-of-lin w32 (negℤ (v *ℤ pos 64)) (omega arith) (omega arith))
-  where
-    sign-size : (p : ℤ) → (P (sign p) ≤ 1) × (N (sign p) ≤ 1)
-    sign-size (pos zero) = omega arith
-    sign-size (pos (suc n)) = omega arith
-    sign-size (negsuc n) = omega arith
 
-rand-fits : (seed : ℤ) → SFits w32 (rand seed)
+-- the generator gives i32 words
+pub rand-fits : (seed : ℤ) → SFits w32 (rand seed)
 unfolding rand
 rand-fits seed = wrap32-fits (seed *ℤ pos 196314165 +ℤ pos 907633515)
 

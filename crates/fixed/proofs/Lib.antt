@@ -1,5 +1,6 @@
 -- Laws for this crate's proofs and for the crates above. Lin: linear arithmetic on ℤ. Wraps: what wraps. Floors: shifts and
--- rounding. Fit: what fits a width. Bounds: ranges. Iters: loops. Fills: loops that write one place at each turn. Unique: one outcome.
+-- rounding. Fit: what fits a width. Bounds: ranges. Iters: loops. Fills: loops that write one place at each turn. Lowest: the lowest number
+-- of which a test holds. Unique: one outcome.
 pub mod Lin
 pub mod Wraps
 pub mod Floors
@@ -7,4 +8,5 @@ pub mod Fit
 pub mod Bounds
 pub mod Iters
 pub mod Fills
+pub mod Lowest
 pub mod Unique

@@ -6,13 +6,13 @@ use native.Mathlib.Omega.{arith}
 use native.Mathlib.Nat.{eq-or-lt-of-le}
 use mathlib.Core.Logic.{⊎-elim}
 use lib.IntN.{ℤ, pos, negsuc}
-use lib.Dec.{eqb}
-use borrow.Author.Tests.{eq-eqb, ne-eqb, eqb-true, eqb-false}
+use lib.Dec.{eqb, ltb}
+use borrow.Author.Tests.{eq-eqb, ne-eqb, eqb-true, eqb-false, ltb-false}
 use mir.Syntax.{w32}
 use mir.Val.{SFits, ofZ}
 use Rattle.fixed.proofs.Lin.{P}
 use Rattle.limits.specs.Count.{natZ, sameZ}
-use Rattle.limits.specs.Tests.{some}
+use Rattle.limits.specs.Tests.{outside, some}
 
 -- a count, in the words of the linear laws
 pub nat-P : (z : ℤ) → natZ z ≡ P z
@@ -63,6 +63,12 @@ or-false false b e = (refl, e)
 pub or-elim : {C : Type 0} {a b : Bool} → (a ≡ true → C) → (b ≡ true → C) → (a || b) ≡ true → C
 or-elim {a = true} f g e = f refl
 or-elim {a = false} f g e = g e
+
+-- a number that is not outside a range of counts is a count of that range
+pub inside : (lo hi : ℕ) (z : ℤ) → outside (pos lo) (pos hi) z ≡ false → (z ≡ pos (natZ z)) × ((lo ≤ natZ z) × (natZ z ≤ hi))
+unfolding outside
+inside lo hi (pos n) e = let h = or-false (ltb n lo) (ltb hi n) e in (refl, (ltb-false n lo (h .0), ltb-false hi n (h .1)))
+inside lo hi (negsuc n) e = let z : _≡_ {A = ℕ} 0 1 = cc in absurd (omega arith)
 
 -- where p holds of no number below m
 pub some-false : (p : ℕ → Bool) (m : ℕ) → some p m ≡ false → (k : ℕ) → k < m → p k ≡ false

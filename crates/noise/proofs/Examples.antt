@@ -6,12 +6,13 @@ use Rattle.fixed.specs.Wrap.{wrapTo, wrap8, wrap32}
 use Rattle.fixed.specs.Range.{clamp, sat16}
 use Rattle.fixed.specs.Shift.{shr, rround}
 use Rattle.products.specs.Product.{smulww}
+use Rattle.residuals.specs.Residual as residuals
 use Rattle.noise.specs.Output.{pulseOf, xqOut}
 use Rattle.noise.specs.Residual.{predicted, residual}
 
 -- levels 511, 512, -512 and -513: the middle goes up, also below 0; and 131072 is 128, which wraps to -128
 pub pulse-rounds : (pulseOf (pos 511) ≡ pos 0) × (pulseOf (pos 512) ≡ pos 1) × (pulseOf (negsuc 511) ≡ pos 0) × (pulseOf (negsuc 512) ≡ negsuc 0) × (pulseOf (pos 131072) ≡ negsuc 127)
-unfolding pulseOf rround shr wrap8 wrapTo
+unfolding pulseOf residuals.pulseOf rround shr wrap8 wrapTo
 pulse-rounds = (refl, refl, refl, refl, refl)
 
 -- a gain of 1.0 in 16 places: 128 is the half that goes up by a shift of 8, and both ends are held to 16 bits

@@ -6,10 +6,11 @@ use Rattle.fixed.specs.Wrap.{wrap8}
 use Rattle.fixed.specs.Shift.{rround}
 use Rattle.fixed.specs.Range.{sat16}
 use Rattle.products.specs.Product.{smulww}
+use Rattle.residuals.specs.Residual as residuals
 
--- the pulse of the level Q_Q10: rounded shift by 10, as i8
+-- the pulse that is handed out for the level Q_Q10: its pulse, as i8
 unfoldable pub pulseOf : ℤ → ℤ
-pulseOf q = wrap8 (rround q 10)
+pulseOf q = wrap8 (residuals.pulseOf q)
 
 -- the output sample: (Xq_Q14 * gain >> 16) as i32, rounded shift by `places`, held to 16 bits
 unfoldable pub xqOut : ℤ → ℤ → ℕ → ℤ

@@ -4,14 +4,15 @@ ghost use Prim.Native.Nat.{_<_, _≤_};
 ghost use Rattle.noise.specs.Output.{pulseOf, xqOut};
 use fixed::wrap;
 use products::product;
+use residuals::residual;
 use shifts::range;
 use shifts::shift;
 
-// The level's pulse: the level in whole units, rounded.
+// The pulse that is handed out for a level.
 pub fn pulse_of(q_q10: i32) -> i8
     ensures { λ r. ⌜ r ≡ pulseOf «q_q10» ⌝ }
 {
-    wrap::low8(shift::rshift_round(q_q10, 10))
+    wrap::low8(residual::pulse_of(q_q10))
 }
 
 // The output sample: by 8 places at a gain of 10 binary places, as each coded sample and the last flush have it, by 14 at one of 16, as the

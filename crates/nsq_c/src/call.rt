@@ -27,7 +27,11 @@ pub extern "C" fn nsq_del_dec(
     gains: &[i32],
     lags: &[i32],
 ) -> u32
-    ensures { λ r. ⌜ leftOf r (now (settings .exit)) (now (samples .exit)) (now (words .exit)) (now (pulses .exit)) ≡ called (now (settings .entry)) (now (samples .entry)) (now (words .entry)) (callIn (now (settings .entry)) (now (samples .entry)) (now (words .entry)) (now (pred .entry)) (now (long .entry)) (now (ar .entry)) (now (harm .entry)) (now (tilt .entry)) (now (lf .entry)) (now (gains .entry)) (now (lags .entry))) (now (x .entry)) (now (pulses .entry)) ⌝ }
+    ensures { λ r. ⌜ leftOf r (now (settings .exit)) (now (samples .exit)) (now (words .exit)) (now (pulses .exit))
+        ≡ called (now (settings .entry)) (now (samples .entry)) (now (words .entry))
+        (callIn (now (settings .entry)) (now (samples .entry)) (now (words .entry)) (now (pred .entry)) (now (long .entry))
+        (now (ar .entry)) (now (harm .entry)) (now (tilt .entry)) (now (lf .entry)) (now (gains .entry)) (now (lags .entry)))
+        (now (x .entry)) (now (pulses .entry)) ⌝ }
 {
     if settings.len() != 12 {
         return 5;

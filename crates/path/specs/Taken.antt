@@ -5,7 +5,8 @@ use mathlib.Core.List.{List, []}
 use lib.ListN.{getD, set}
 use lib.IntN.{ℤ, pos, _+ℤ_}
 use Rattle.fixed.specs.Wrap.{wrap32}
-use Rattle.fixed.specs.Shift.{shl32, rround}
+use Rattle.fixed.specs.Shift.{shl32}
+use Rattle.residuals.specs.Residual.{seedWith}
 use Rattle.path.specs.declared.structs.Path.{Path}
 use Rattle.path.specs.declared.structs.Candidate.{Candidate}
 use Rattle.path.specs.Data.{noPath, Paths, paths, ringRandState, ringQ, ringXq, ringPred, ringShape, ringSet}
@@ -36,7 +37,7 @@ takenOwn c p =
       «sAR2_Q14» = p .«sAR2_Q14»;
       «LF_AR_Q14» = c .«LF_AR_Q14»;
       «Diff_Q14» = c .«Diff_Q14»;
-      «Seed» = wrap32 (p .«Seed» +ℤ rround (c .«Q_Q10») 10);
+      «Seed» = seedWith (p .«Seed») (c .«Q_Q10»);
       «SeedInit» = p .«SeedInit»;
       «RD_Q10» = c .«RD_Q10»;
     }

@@ -184,7 +184,7 @@ impl Path {
         let xq = c.xq_Q14;
         let shape = c.sLTP_shp_Q14;
         let pred = shift::shl32(c.LPC_exc_Q14, 1);
-        let seed = wrap::add32(self.Seed, shift::rshift_round(q, 10));
+        let seed = residual::seed_with(self.Seed, q);
         lpc[16 + i] = xq;
         ring[XQ_Q14][r] = xq;
         ring[Q_Q10][r] = q;

@@ -21,17 +21,13 @@ use Rattle.limits.specs.Count.{natZ, sameZ}
 use Rattle.refusal_rules.specs.Good.{Among, GoodLength, GoodCount, GoodOrder, GoodShaping, GoodLag, QuietLag, GoodSettings, GoodRows, GoodGains, GoodLags, Good}
 use Rattle.limits.specs.Tests.{outside, lengthAllowed, countAllowed, orderFor, oddZ, some, lengthsRefused, ordersRefused, pathsRefused, kindsRefused, gainRefused, someGain, gainsRefused, lagRefused, quietLagRefused, someLag, lastOf, lagsRefused}
 use Rattle.refusal_rules.specs.Table.{another, eachRefused, rowsRefused, table, answerOf}
-use Rattle.limits.proofs.Laws.{same-true, or-false, or-elim, some-false}
+use Rattle.limits.proofs.Laws.{same-true, or-false, or-elim, inside, some-false}
 use Rattle.refusal_rules.proofs.Exactly.{exactly-accepted}
 
 -- ---- one setting
 -- a number that is not outside a range
 among : (lo hi : ℕ) (z : ℤ) → outside (pos lo) (pos hi) z ≡ false → Among lo hi z
-unfolding outside
-among lo hi (pos n) e =
-    let h = or-false (ltb n lo) (ltb hi n) e in
-    record { counts = refl; least = ltb-false n lo (h .0); most = ltb-false hi n (h .1) }
-among lo hi (negsuc n) e = let z : _≡_ {A = ℕ} 0 1 = cc in absurd (omega arith)
+among lo hi z e = let h = inside lo hi z e in record { counts = h .0; least = h .1 .0; most = h .1 .1 }
 
 -- a number that is one of those named
 named : (lo hi v : ℕ) (z : ℤ) → lo ≤ v → v ≤ hi → sameZ z (pos v) ≡ true → Among lo hi z × (natZ z ≡ v)

@@ -4,7 +4,7 @@ ghost use Rattle.limits.specs.Tests.{outside as outsideZ, lengthAllowed, countA
 use limits::count;
 
 // Is x below lo or above hi?
-fn outside(lo: i32, hi: i32, x: i32) -> bool
+pub fn outside(lo: i32, hi: i32, x: i32) -> bool
     ensures { λ r. ⌜ r ≡ outsideZ lo hi x ⌝ }
 {
     if x < lo {

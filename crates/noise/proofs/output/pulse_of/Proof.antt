@@ -7,8 +7,8 @@ use Rattle.noise.specs.Output.{pulseOf}
 use Rattle.noise.proofs.output.pulse_of.Statement.{statement}
 use Rattle.noise.proofs.output.pulse_of.Tie as tie
 
-rshift-round-requires : tie.Need-rshift-round-requires
-rshift-round-requires c κs = search needs
+pulse-of-requires : tie.Need-pulse-of-requires
+pulse-of-requires c κs = search needs
 
 low8-requires : tie.Need-low8-requires
 low8-requires c κs = search needs
@@ -17,9 +17,8 @@ returns : tie.Need-returns
 unfolding pulseOf
 returns c =
     let p = c .before in
-    let rounded = rw (read (p .before .fits .q-q10)) at (p .rshift-round .ensures) in
-    back w8 (c .low8 .result) (c .low8 .ok)
-    ∙ rw (got32 (p .rshift-round .result) (p .rshift-round .ok), rounded) at (c .low8 .ensures)
+    let pulse = rw (read (p .before .fits .q-q10)) at (p .pulse-of .ensures) in
+    back w8 (c .low8 .result) (c .low8 .ok) ∙ rw (got32 (p .pulse-of .result) (p .pulse-of .ok), pulse) at (c .low8 .ensures)
 
 pub pulse-of-spec : {M : Type 1} → statement M
-pulse-of-spec = tie.close (tie.spec rshift-round-requires low8-requires returns)
+pulse-of-spec = tie.close (tie.spec pulse-of-requires low8-requires returns)

@@ -10,11 +10,8 @@ use Rattle.path.proofs.structs.Path.taken.Tie as tie
 shl32-requires : tie.Need-shl32-requires
 shl32-requires c κs = search needs
 
-rshift-round-requires : tie.Need-rshift-round-requires
-rshift-round-requires c κs = search needs
-
-add32-requires : tie.Need-add32-requires
-add32-requires c κs = search needs
+seed-with-requires : tie.Need-seed-with-requires
+seed-with-requires c κs = search needs
 
 add-xq : tie.Need-add-xq
 add-xq c = search needs
@@ -74,14 +71,12 @@ returns : tie.Need-returns
 unfolding taken takenOwn takenRings
 returns c =
     let a = c .before .before .before in
-    let m = a .before .before in
-    let s = m .before in
+    let s = a .before .before in
     let st = s .before .before .before .before .before in
     let k = candidate (st .args .c) (c .struct-told8 .given) in
     let p = path (st .args .self) (a .before .struct-told5 .given) in
-    let round = got32 (m .rshift-round .result) (m .rshift-round .ok) ∙ rw (k .q) at (m .rshift-round .ensures) in
     let pred = got32 (s .shl32 .result) (s .shl32 .ok) ∙ rw (k .exc) at (s .shl32 .ensures) in
-    let seed = got32 (a .add32 .result) (a .add32 .ok) ∙ rw (p .seed, round) at (a .add32 .ensures) in
+    let seed = got32 (a .seed-with .result) (a .seed-with .ok) ∙ rw (p .seed, k .q) at (a .seed-with .ensures) in
     simp (seed, pred, k .q, k .rd, k .xq, k .lf, k .diff, k .shp)
 
 pub taken-spec : {M : Type 1} → statement M
@@ -89,8 +84,7 @@ taken-spec =
     tie.close
     (tie.spec
     shl32-requires
-    rshift-round-requires
-    add32-requires
+    seed-with-requires
     add-xq
     mul-xq
     element-set-from-xq

@@ -1,0 +1,3 @@
+pub mod Code
+pub mod Refused
+pub mod Reading

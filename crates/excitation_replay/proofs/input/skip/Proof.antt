@@ -1,0 +1,46 @@
+-- `excitation_replay::input::skip` meets its contract. Assumes nothing.
+use Prim.Native.Nat.{_≤_, _-_}
+use borrow.Author.Needs.{needs}
+use Rattle.excitation_replay.proofs.input.skip.Statement.{statement}
+use Rattle.excitation_replay.proofs.input.skip.Tie as tie
+
+abbrev Inv-loop : tie.InvT-loop
+Inv-loop i₀ i = i ≤ 4096
+
+abbrev μ-loop : tie.MeasureT-loop
+μ-loop i₀ i = 4096 - i
+
+loop-holds : tie.Need-loop-holds Inv-loop μ-loop
+loop-holds c = search needs
+
+byte-requires : tie.Need-byte-requires Inv-loop μ-loop
+byte-requires c κs = search needs
+
+returns : tie.Need-returns Inv-loop μ-loop
+returns c = search needs
+
+add-i : tie.Need-add-i Inv-loop μ-loop
+add-i c = search needs
+
+loop-less : tie.Need-loop-less Inv-loop μ-loop
+loop-less c = search needs
+
+loop-again : tie.Need-loop-again Inv-loop μ-loop
+loop-again c = search needs
+
+returns-2 : tie.Need-returns-2 Inv-loop μ-loop
+returns-2 c = search needs
+
+pub skip-spec : {M : Type 1} → statement M
+skip-spec =
+    tie.close
+    (tie.spec
+    Inv-loop
+    μ-loop
+    loop-holds
+    byte-requires
+    returns
+    add-i
+    loop-less
+    loop-again
+    returns-2)
