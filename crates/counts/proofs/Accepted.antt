@@ -1,25 +1,22 @@
 -- What an accepted call may rely on, as facts on counts. Assumes nothing.
 use Prim.Native.Nat.{ℕ, _+_, _*_, _<_, _≤_}
 use native.Mathlib.Omega.{arith}
-use mathlib.Core.Path.{_≡_, refl, ap}
+use mathlib.Core.Path.{_≡_, refl}
 use mathlib.Core.Bool.{Bool, true, false}
 use mathlib.Core.List.{List}
-use mathlib.Core.Logic.{inl, inr}
 use lib.ListN.{length}
 use lib.IntN.{ℤ, pos}
 use borrow.Author.Tests.{lt-ltb}
 use Rattle.fixed.specs.Iter.{either}
 use Rattle.silk.specs.declared.structs.Settings.{Settings}
 use Rattle.fixed.specs.Row.{word}
-use Rattle.refusal_rules.specs.declared.answer.Answer.{Answer}
-use Rattle.refusal_rules.specs.declared.answer.Answer.the-variants.{Accepted, Lengths, Orders, Paths, Kinds, Rows, Gains, Lags}
 use Rattle.refusal_rules.specs.Code.{codeOf}
 use Rattle.limits.specs.Count.{natZ, sameZ}
-use Rattle.refusal_rules.specs.Good.{QuietLag, GoodLength, GoodSettings, GoodLags, Good}
-use Rattle.refusal_rules.proofs.Accept.{good}
-use Rattle.refusal_rules.proofs.Room.{lag-above}
+use Rattle.refusal_rules.specs.Good.{GoodSettings, GoodLags, Good}
+use Rattle.refusal_rules.proofs.Room.{lag-above, quiet-above}
 use Rattle.steps.specs.Call.{Call, voicedBy, lowered, voicedDelay, quietDelay, delayBy, givenBy, givenOf, lengthOf, countOf, delayOf, lagBy, lagOf, Sound}
 use Rattle.steps.proofs.Sound.{sound-by, sound-of, counts}
+use Rattle.steps.proofs.Outcomes.{accepted-good}
 use Rattle.steps.specs.Entry.{answered}
 use Rattle.steps.specs.Sizes.{sizesOf}
 
@@ -27,10 +24,6 @@ use Rattle.steps.specs.Sizes.{sizesOf}
 quiet-early : (l prev : ℕ) → 16 ≤ prev → quietDelay l prev + 3 ≤ prev
 unfolding quietDelay lowered
 quiet-early l prev h = rw (lt-ltb 0 prev (omega arith)) (omega arith)
-
-quiet-lag : {l lag : ℤ} → GoodLength l → QuietLag l lag → 0 < natZ lag → 16 ≤ natZ lag
-quiet-lag g (inl e) h = absurd (omega (arith, ap natZ e))
-quiet-lag g (inr k) h = lag-above g k
 
 early-by : {s : Settings} {p : ℤ} {lags : List ℤ} → GoodSettings s → GoodLags (natZ (s .«nb_subfr»)) (s .«subfr_length») (s .signalType) p lags
     → (k : ℕ) → k < natZ (s .«nb_subfr») → 0 < lagBy (givenBy s p lags) lags k → givenBy s p lags .delay + 3 ≤ lagBy (givenBy s p lags) lags k
@@ -40,7 +33,7 @@ early-by {s} {p} {lags} g h k b = go (sameZ (s .signalType) (pos 2)) refl
     go : (v : Bool) → sameZ (s .signalType) (pos 2) ≡ v → 0 < either v (natZ (word lags k)) (natZ p)
         → either v (voicedDelay (natZ (s .«subfr_length»)) (natZ (s .«nb_subfr»)) lags) (quietDelay (natZ (s .«subfr_length»)) (natZ p)) + 3 ≤ either v (natZ (word lags k)) (natZ p)
     go true e q = rw e at (sound-by g h .early e k b)
-    go false e q = quiet-early (natZ (s .«subfr_length»)) (natZ p) (quiet-lag (g .l) (h .prev e) q)
+    go false e q = quiet-early (natZ (s .«subfr_length»)) (natZ p) (lag-above (g .l) (quiet-above (h .prev e) q))
 
 -- ---- all that is used of it
 pub record Ready (c : Call) (x p : List ℤ) : Type 0 where
@@ -62,18 +55,6 @@ ready-of c x p g =
       pulses = rw (n .count, n .length) (g .rows .pulses);
     }
 
--- number 0 is that of the accepted
-zero-accepted : (a : Answer) → codeOf a ≡ 0 → a ≡ Accepted
-zero-accepted Accepted e = refl
-zero-accepted Lengths e = absurd (omega arith)
-zero-accepted Orders e = absurd (omega arith)
-zero-accepted Paths e = absurd (omega arith)
-zero-accepted Kinds e = absurd (omega arith)
-zero-accepted Rows e = absurd (omega arith)
-zero-accepted Gains e = absurd (omega arith)
-zero-accepted Lags e = absurd (omega arith)
-
+-- a call with number 0 has all of it
 pub ready : (c : Call) (x p : List ℤ) → codeOf (answered c x p) ≡ 0 → Ready c x p
-unfolding answered
-ready c x p e =
-    ready-of c x p (good (c .settings) (sizesOf c x p) (c .state .lagPrev) (c .state .«prev_gain_Q16») (c .«Gains_Q16») (c .pitchL) (zero-accepted _ e))
+ready c x p e = ready-of c x p (accepted-good c x p e)

@@ -23,12 +23,12 @@ pub record OutsSame (m h b : ℕ) (o u : Outs) : Type 0 where
   pub out : Below b (o .pulses) (u .pulses)
 
 -- what one sample of a flush writes
-record Put (h : ℕ) (ring : List (List ℤ)) (fit : ℤ → ℤ) (last p : ℕ) (t u : Outs) : Type 0 where
-  xq : u .xq ≡ set (t .xq) (h + p) (fit (word (getD ring ringXq []) last))
-  shp : u .«sLTP_shp_Q14» ≡ set (t .«sLTP_shp_Q14») (h + p) (word (getD ring ringShape []) last)
-  out : u .pulses ≡ set (t .pulses) p (pulseOf (word (getD ring ringQ []) last))
+pub record Put (h : ℕ) (ring : List (List ℤ)) (fit : ℤ → ℤ) (last p : ℕ) (t u : Outs) : Type 0 where
+  pub xq : u .xq ≡ set (t .xq) (h + p) (fit (word (getD ring ringXq []) last))
+  pub shp : u .«sLTP_shp_Q14» ≡ set (t .«sLTP_shp_Q14») (h + p) (word (getD ring ringShape []) last)
+  pub out : u .pulses ≡ set (t .pulses) p (pulseOf (word (getD ring ringQ []) last))
 
-put-at : (h : ℕ) (ring : List (List ℤ)) (fit : ℤ → ℤ) (last p : ℕ) (t : Outs) → Put h ring fit last p t (flushAt h ring fit last p t)
+pub put-at : (h : ℕ) (ring : List (List ℤ)) (fit : ℤ → ℤ) (last p : ℕ) (t : Outs) → Put h ring fit last p t (flushAt h ring fit last p t)
 unfolding flushAt
 put-at h ring fit last p t = record { xq = refl; shp = refl; out = refl }
 

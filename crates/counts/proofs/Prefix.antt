@@ -52,7 +52,7 @@ runOut t = t .pulses
 abbrev whiteOut : Whitened → List ℤ
 whiteOut w = w .run .pulses
 
--- ..
+-- the pulses of a frame in work, between subframes
 abbrev pub frameOut : Framed → List ℤ
 frameOut t = t .run .pulses
 

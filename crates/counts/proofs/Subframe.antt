@@ -96,11 +96,13 @@ pub record Wrote (f : Fix) (i : ℕ) (s : Settled) (t u : Running) : Type 0 wher
   pub xq : u .xq ≡ emit (leaves f i) (t .xq) (4 * f .«subfr_length» + (f .base + i - f .decisionDelay)) (xqOut (s .«Xq_Q14») (gainOf f (t .core)) 8)
   pub shp : u .«sLTP_shp_Q14» ≡ emit (leaves f i) (t .«sLTP_shp_Q14») (4 * f .«subfr_length» + (f .base + i - f .decisionDelay)) (s .«Shape_Q14»)
   pub out : u .pulses ≡ emit (leaves f i) (t .pulses) (f .base + i - f .decisionDelay) (pulseOf (s .«Q_Q10»))
+  pub ps : u .core .ps ≡ s .ps
+  pub at : u .core .«smpl_buf_idx» ≡ down (t .core .«smpl_buf_idx»)
   pub core : (z : Running) → z .core ≡ t .core → put f i s z .core ≡ u .core
 
 pub wrote : (f : Fix) (i : ℕ) (s : Settled) (t : Running) → Wrote f i s t (put f i s t)
 unfolding put putAt
-wrote f i s t = record { xq = refl; shp = refl; out = refl; core = λ z e. rw e refl }
+wrote f i s t = record { xq = refl; shp = refl; out = refl; ps = refl; at = refl; core = λ z e. rw e refl }
 
 -- the words that leave: what two rows are written with is the same
 emit-same : (first : Bool) (h base d i : ℕ) {s t : List ℤ} (v : ℤ) → (first ≡ false → d ≤ base) → Below (h + bound first base d i) s t
@@ -121,7 +123,8 @@ emit-same false h base d i {s} {t} v k r =
     let a : suc (h + (base + i - d)) ≡ h + (base + suc i - d) = omega arith in
     rw (← a) (below-grow r v)
 
-emit-out : (first : Bool) (base d i : ℕ) {s t : List ℤ} (v : ℤ) → (first ≡ false → d ≤ base) → Below (bound first base d i) s t
+-- .. and the pulses
+pub emit-out : (first : Bool) (base d i : ℕ) {s t : List ℤ} (v : ℤ) → (first ≡ false → d ≤ base) → Below (bound first base d i) s t
     → Below (bound first base d (suc i)) (emit (either first (leb d i) true) s (base + i - d) v) (emit (either first (leb d i) true) t (base + i - d) v)
 emit-out first base d i {s} {t} v k r =
     simp zero-add at (emit-same first 0 base d i {s = s} {t = t} v k (simp zero-add r))

@@ -14,9 +14,9 @@ use Rattle.steps.specs.Among.{Rule}
 use Rattle.refusal_rules.specs.Code.{codeOf}
 use Rattle.limits.specs.Count.{natZ}
 use Rattle.steps.specs.Call.{Call, delayOf}
-use Rattle.steps.specs.Entry.{Outcome, answered, outcomeBy, outcome}
+use Rattle.steps.specs.Entry.{Outcome, answered, outcome}
 use Rattle.steps.specs.Sizes.{sizesOf}
-use Rattle.steps.proofs.Outcomes.{accepted-by, refused-by}
+use Rattle.steps.proofs.Outcomes.{outcome-is, accepted-by, refused-by}
 use Rattle.counts.specs.Agree.{Alike, Agree, HandsOutSame, SameOutcome, Decided}
 use Rattle.counts.proofs.Rows.{Below, below-refl, below-at}
 use Rattle.counts.proofs.Refusals.{answer-same}
@@ -26,10 +26,6 @@ use Rattle.counts.proofs.Calls.{settled}
 use Rattle.counts.proofs.Whole.{frame-same}
 
 -- ---- the outcome by its number
-outcome-is : (rule : Rule) (c : Call) (x p : List ℤ) → outcome rule c x p ≡ outcomeBy rule c x p (answered c x p)
-unfolding outcome
-outcome-is rule c x p = refl
-
 outcome-answer : (rule : Rule) (c : Call) (x p : List ℤ) → outcome rule c x p .answer ≡ answered c x p
 outcome-answer rule c x p = go (eqb (codeOf (answered c x p)) 0) refl
   where

@@ -74,8 +74,9 @@ left-same g w s prev lag words words′ gain p lpc xq xq′ shp shp′ e a b = (
   refl,
 )
 
--- what is handed out
-pub record DoneSame (l : ℕ) (e u : Done) : Type 0 where
+-- what is handed out: m pulses, and the same
+pub record DoneSame (m l : ℕ) (e u : Done) : Type 0 where
+  pub long : length (e .pulses) ≡ m
   pub pulses : e .pulses ≡ u .pulses
   pub seed : e .seed ≡ u .seed
   pub state : StateAgree l (e .state) (u .state)
@@ -84,10 +85,10 @@ pub record DoneSame (l : ℕ) (e u : Done) : Type 0 where
 handed-same : (g : Given) (w s : ℤ) (prev : ℕ) (lag : ℤ) (words words′ : List ℤ) (gain : ℤ) (p : Path) (lpc : List ℤ) {m : ℕ} (o u : Outs)
     → m ≡ g .«nb_subfr» * g .«subfr_length»
     → Below 16 words words′ → OutsSame m (4 * g .«subfr_length») (g .«nb_subfr» * g .«subfr_length») o u
-    → DoneSame (g .«subfr_length») (handedOut g lag words gain p lpc o) (handedOut (other g w s prev) lag words′ gain p lpc u)
+    → DoneSame m (g .«subfr_length») (handedOut g lag words gain p lpc o) (handedOut (other g w s prev) lag words′ gain p lpc u)
 handed-same g w s prev lag words words′ gain p lpc o u k e a =
     let z = left-same g w s prev lag words words′ gain p lpc (o .xq) (u .xq) (o .«sLTP_shp_Q14») (u .«sLTP_shp_Q14») e (a .xq) (a .shp) in
-    record { pulses = below-all (a .out) (omega (arith, a .long)); seed = refl; state = z .0; lagPrev = z .1 }
+    record { long = a .long; pulses = below-all (a .out) (omega (arith, a .long)); seed = refl; state = z .0; lagPrev = z .1 }
 
 -- ---- two calls
 module _ (c d : Call) (x y p q : List ℤ) (h : Agree c x p d y q) (r : Ready c x p) where
@@ -208,7 +209,7 @@ module _ (c d : Call) (x y p q : List ℤ) (h : Agree c x p d y q) (r : Ready c 
       ∙ ap (λ (l : List ℤ). endedBy (otherOf c d) (word l (countOf c - 1)) (word (d .pitchL) (countOf c - 1)) (d .state .«sLPC_Q14») u) (sym (h .gains))
       ∙ ended-is (otherOf c d) (word (c .«Gains_Q16») (countOf c - 1)) (word (d .pitchL) (countOf c - 1)) (d .state .«sLPC_Q14») u
 
-  ended-same : (t u : Framed) → FrameSame (length p) (4 * lengthOf c) (countOf c * lengthOf c - delayOf c) t u → DoneSame (lengthOf c) (ended c t) (ended d u)
+  ended-same : (t u : Framed) → FrameSame (length p) (4 * lengthOf c) (countOf c * lengthOf c - delayOf c) t u → DoneSame (length p) (lengthOf c) (ended c t) (ended d u)
   ended-same t u s =
       let w = bestOf (u .run .core .ps .owns) (pathsOf c) in
       let two : delayOf c ≤ countOf c * lengthOf c = omega (arith, r .sound .delayShort, mul-le-mul-right (lengthOf c) (r .sound .some)) in
@@ -217,5 +218,5 @@ module _ (c d : Call) (x y p q : List ℤ) (h : Agree c x p d y q) (r : Ready c 
       (handed-same (givenOf c) (d .settings .«warping_Q16») (d .settings .«LTP_scale_Q14») (natZ (d .state .lagPrev)) (word (d .pitchL) (countOf c - 1)) (c .state .«sLPC_Q14») (d .state .«sLPC_Q14») (u .«prev_gain_Q16»)
       (getD (u .run .core .ps .owns) w noPath) (getD (u .run .core .ps .lpcs) w []) _ _ (r .pulses) lpc-below o)
 
-  pub frame-same : (rule : Rule) → DoneSame (lengthOf c) (frame rule c x p) (frame rule d y q)
+  pub frame-same : (rule : Rule) → DoneSame (length p) (lengthOf c) (frame rule c x p) (frame rule d y q)
   frame-same rule = rw (frame-is rule c x p, frame-is rule d y q) (ended-same (run rule c x p) (run rule d y q) (run-same rule))

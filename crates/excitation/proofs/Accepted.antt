@@ -1,6 +1,6 @@
 -- What the answers say: a call that the reader accepts, the tags of a match on an answer, and the table of refusals word for word.
 -- Assumes nothing.
-use Prim.Native.Nat.{ℕ, suc, _^_, _≤_, _<_}
+use Prim.Native.Nat.{ℕ, zero, suc, _^_, _≤_, _<_}
 use native.Mathlib.Omega.{arith}
 use native.Mathlib.Nat.{mod-eq-of-lt}
 use mathlib.Core.Path.{_≡_, refl, sym, ap, _∙_}
@@ -10,14 +10,14 @@ use mathlib.Core.Logic.{_↔_, ⊎-elim}
 use types.Run.{OneOf}
 use lib.IntN.{ℤ, pos}
 use lib.Dec.{eqb, ltb}
-use borrow.Author.Tests.{eqb-true, ltb-false, not-false}
+use borrow.Author.Tests.{eqb-true, eq-eqb, ltb-false, le-ltb, not-false}
 use denote.Enum.Declared.{tagOf}
 use Rattle.fixed.specs.Iter.{either}
 use Rattle.fixed.specs.Wrap.{modZ}
 use Rattle.fixed.proofs.Lowest.{lowest, exactly-lowest, exactly-none}
 use Rattle.limits.specs.Count.{natZ}
 use Rattle.limits.specs.Tests.{outside}
-use Rattle.limits.proofs.Laws.{or-false, inside}
+use Rattle.limits.proofs.Laws.{or-false, inside, within}
 use Rattle.excitation.specs.declared.answer.Answer.{Answer}
 use Rattle.excitation.specs.declared.answer.Answer.the-variants.{Accepted, Seeds, Kinds, Rows}
 use Rattle.excitation.specs.Code.{codeOf}
@@ -57,7 +57,9 @@ module _ (seed signalType offsetType : ℤ) (pulses row : ℕ) where
 pub record Good (seed signalType offsetType : ℤ) (pulses row : ℕ) : Type 0 where
   pub seed-counts : seed ≡ pos (natZ seed)
   pub seed-most : natZ seed ≤ 3
+  pub kind-counts : signalType ≡ pos (natZ signalType)
   pub kind-most : natZ signalType ≤ 2
+  pub type-counts : offsetType ≡ pos (natZ offsetType)
   pub type-most : natZ offsetType ≤ 1
   pub same : pulses ≡ row
   pub most : pulses ≤ 320
@@ -72,11 +74,40 @@ accepted-good seed signalType offsetType pulses row e =
     record {
       seed-counts = s .0;
       seed-most = s .1 .1;
+      kind-counts = inside 0 2 signalType (kinds .0) .0;
       kind-most = inside 0 2 signalType (kinds .0) .1 .1;
+      type-counts = inside 0 1 offsetType (kinds .1) .0;
       type-most = inside 0 1 offsetType (kinds .1) .1 .1;
       same = eqb-true pulses row (not-false (eqb pulses row) (rows .0));
       most = ltb-false 320 pulses (rows .1);
     }
+
+-- no number applies to such a call
+good-seed : {seed signalType offsetType : ℤ} {pulses row : ℕ} → Good seed signalType offsetType pulses row → applies seed signalType offsetType pulses row 1 ≡ false
+unfolding table seedRefused
+good-seed {seed} g = ap (outside (pos 0) (pos 3)) (g .seed-counts) ∙ within 0 3 (natZ seed) (omega arith) (g .seed-most)
+
+good-kinds : {seed signalType offsetType : ℤ} {pulses row : ℕ} → Good seed signalType offsetType pulses row → applies seed signalType offsetType pulses row 2 ≡ false
+unfolding table kindsRefused
+good-kinds {seed} {signalType} {offsetType} g =
+    let kind = ap (outside (pos 0) (pos 2)) (g .kind-counts) ∙ within 0 2 (natZ signalType) (omega arith) (g .kind-most) in
+    let type = ap (outside (pos 0) (pos 1)) (g .type-counts) ∙ within 0 1 (natZ offsetType) (omega arith) (g .type-most) in
+    rw (kind, type)
+
+good-rows : {seed signalType offsetType : ℤ} {pulses row : ℕ} → Good seed signalType offsetType pulses row → applies seed signalType offsetType pulses row 3 ≡ false
+unfolding table rowsRefused
+good-rows {pulses} {row} g = rw (eq-eqb pulses row (g .same), le-ltb 320 pulses (g .most))
+
+-- and each such call is accepted
+pub good-accepted : {seed signalType offsetType : ℤ} {pulses row : ℕ} → Good seed signalType offsetType pulses row → codeOf (answerOf seed signalType offsetType pulses row) ≡ 0
+good-accepted {seed} {signalType} {offsetType} {pulses} {row} g = exactly-accepted seed signalType offsetType pulses row .1 none
+  where
+    none : (j : ℕ) → 1 ≤ j → j ≤ 3 → applies seed signalType offsetType pulses row j ≡ false
+    none zero l u = absurd (omega arith)
+    none (suc zero) l u = good-seed g
+    none (suc (suc zero)) l u = good-kinds g
+    none (suc (suc (suc zero))) l u = good-rows g
+    none (suc (suc (suc (suc n)))) l u = absurd (omega arith)
 
 -- the generator's word of such a seed is the seed
 pub seed-word : (seed : ℤ) → seed ≡ pos (natZ seed) → natZ seed ≤ 3 → modZ seed (2 ^ 32) ≡ natZ seed

@@ -1,6 +1,8 @@
--- Loops: one turn more for the code's loops, and what holds after each turn of one loop or of two.
+-- Loops: one turn more for the code's loops, and what holds after each turn of one loop or of two. Branches, searches, and one number more.
+-- Assumes nothing.
 use Prim.Native.Nat.{ℕ, zero, suc, _+_, _-_, _<_, _≤_}
 use native.Mathlib.Omega.{arith}
+use native.Mathlib.Decide.{decLt}
 use native.Mathlib.Nat.{add-zero, add-suc}
 use native.Mathlib.Numerals.{add-one}
 use mathlib.Core.Path.{_≡_, refl, sym, ap, _∙_}
@@ -45,6 +47,11 @@ pub either-all : {A : Type 0} (Q : A → Type 0) (c : Bool) (x y : A) → (c ≡
 either-all Q true x y p q = p refl
 either-all Q false x y p q = q refl
 
+-- a branch with one thing on both sides
+pub either-alike : {A : Type 0} (c : Bool) (x : A) → either c x x ≡ x
+either-alike true x = refl
+either-alike false x = refl
+
 -- what holds of the two sides of two branches by one test
 pub either-rel : {A B : Type 0} (R : A → B → Type 0) (c : Bool) (x y : A) (u v : B) → (c ≡ true → R x u) → (c ≡ false → R y v) → R (either c x y) (either c u v)
 either-rel R true x y u v h k = h refl
@@ -57,3 +64,13 @@ found-less test n h =
     iter-keeps (λ k w. w ≤ k - 1) (λ k w. either (test k w) k w) n
     (λ k b w below. either-all (λ v. v ≤ suc k - 1) (test k w) k w (λ e. omega arith) (λ e. omega arith)) 0 (omega arith) in
     omega arith
+
+-- ---- one number more
+-- j is below k, or k itself
+below-or-at : (Q : ℕ → Type 0) (j k : ℕ) → Dec (j < k) → j < suc k → (j < k → Q j) → Q k → Q j
+below-or-at Q j k (yes b) h before here = before b
+below-or-at Q j k (no n) h before here = let e : j ≡ k = omega arith in rw e here
+
+-- what holds of each number below k, and of k, holds of each below k + 1
+pub one-more : (Q : ℕ → Type 0) (j k : ℕ) → j < suc k → (j < k → Q j) → Q k → Q j
+one-more Q j k h before here = below-or-at Q j k (decLt j k) h before here

@@ -1,6 +1,6 @@
 -- Laws for this crate's proofs and for the crates above. Lin: linear arithmetic on ℤ. Wraps: what wraps. Floors: shifts and
 -- rounding. Fit: what fits a width. Bounds: ranges. Iters: loops. Fills: loops that write one place at each turn. Lowest: the lowest number
--- of which a test holds. Unique: one outcome.
+-- of which a test holds. Blocks: numbers counted in blocks. Unique: one outcome.
 pub mod Lin
 pub mod Wraps
 pub mod Floors
@@ -9,4 +9,5 @@ pub mod Bounds
 pub mod Iters
 pub mod Fills
 pub mod Lowest
+pub mod Blocks
 pub mod Unique

@@ -7,7 +7,7 @@ use native.Mathlib.Nat.{eq-or-lt-of-le}
 use mathlib.Core.Logic.{⊎-elim}
 use lib.IntN.{ℤ, pos, negsuc}
 use lib.Dec.{eqb, ltb}
-use borrow.Author.Tests.{eq-eqb, ne-eqb, eqb-true, eqb-false, ltb-false}
+use borrow.Author.Tests.{eq-eqb, ne-eqb, eqb-true, eqb-false, ltb-false, le-ltb}
 use mir.Syntax.{w32}
 use mir.Val.{SFits, ofZ}
 use Rattle.fixed.proofs.Lin.{P}
@@ -69,6 +69,11 @@ pub inside : (lo hi : ℕ) (z : ℤ) → outside (pos lo) (pos hi) z ≡ false �
 unfolding outside
 inside lo hi (pos n) e = let h = or-false (ltb n lo) (ltb hi n) e in (refl, (ltb-false n lo (h .0), ltb-false hi n (h .1)))
 inside lo hi (negsuc n) e = let z : _≡_ {A = ℕ} 0 1 = cc in absurd (omega arith)
+
+-- and a count of the range is not outside it
+pub within : (lo hi n : ℕ) → lo ≤ n → n ≤ hi → outside (pos lo) (pos hi) (pos n) ≡ false
+unfolding outside
+within lo hi n l h = rw (le-ltb n lo l, le-ltb hi n h)
 
 -- where p holds of no number below m
 pub some-false : (p : ℕ → Bool) (m : ℕ) → some p m ≡ false → (k : ℕ) → k < m → p k ≡ false

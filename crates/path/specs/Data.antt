@@ -39,23 +39,23 @@ pub record Paths : Type 0 where
 abbrev pub paths : List Path → List (List ℤ) → List (List (List ℤ)) → Paths
 paths o l r = record { owns = o; lpcs = l; rings = r }
 
--- which of the five rings
+-- which of the five rings: RandState, the seed after the sample
 abbrev pub ringRandState : ℕ
 ringRandState = 0
 
--- ..
+-- Q_Q10: the level
 abbrev pub ringQ : ℕ
 ringQ = 1
 
--- ..
+-- Xq_Q14: the coded sample
 abbrev pub ringXq : ℕ
 ringXq = 2
 
--- ..
+-- Pred_Q15: the excitation with its long-term prediction
 abbrev pub ringPred : ℕ
 ringPred = 3
 
--- ..
+-- Shape_Q14: the shaping word
 abbrev pub ringShape : ℕ
 ringShape = 4
 

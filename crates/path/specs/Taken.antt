@@ -59,11 +59,11 @@ pub record Whole : Type 0 where
 abbrev pub whole : Path → List ℤ → List (List ℤ) → Whole
 whole o l r = record { own = o; lpc = l; ring = r }
 
--- path k, and the paths with another path k
+-- path k
 abbrev pub pathAt : Paths → ℕ → Whole
 pathAt p k = whole (getD (p .owns) k noPath) (getD (p .lpcs) k []) (getD (p .rings) k [])
 
--- ..
+-- the paths with another path k
 abbrev pub pathSet : Paths → ℕ → Whole → Paths
 pathSet p k w = paths (set (p .owns) k (w .own)) (set (p .lpcs) k (w .lpc)) (set (p .rings) k (w .ring))
 

@@ -11,7 +11,8 @@ use Rattle.fixed.proofs.Iters.{iter-keeps}
 use Rattle.fixed.proofs.Lin.{mod-lin}
 use Rattle.rfc6716.specs.Excitation.{Row, pulse, turn, excitation, nextSeed, seedAfter}
 
-pulse-length : (offset x : ℤ) (t : Row) → length (pulse offset x t .«e_Q23») ≡ suc (length (t .«e_Q23»))
+-- one pulse more is one word more
+pub pulse-length : (offset x : ℤ) (t : Row) → length (pulse offset x t .«e_Q23») ≡ suc (length (t .«e_Q23»))
 unfolding pulse
 pulse-length offset x t = simp length-append (omega arith)
 

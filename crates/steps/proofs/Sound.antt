@@ -10,7 +10,7 @@ use lib.ListN.{length}
 use lib.IntN.{ℤ, pos}
 use lib.Signed.{_≤ℤ_}
 use lib.Dec.{eqb, leb, ltb}
-use borrow.Author.Tests.{eqb-true, eqb-false, le-leb}
+use borrow.Author.Tests.{eqb-true, eqb-false, le-leb, ltb-true}
 use Rattle.fixed.proofs.Iters.{iter-keeps, iter-inv, either-all}
 use Rattle.silk.specs.declared.structs.Settings.{Settings}
 use Rattle.fixed.specs.Row.{word}
@@ -18,7 +18,7 @@ use Rattle.places.specs.Places.{Fits}
 use Rattle.limits.specs.Count.{natZ, sameZ}
 use Rattle.refusal_rules.specs.declared.answer.Sizes.{Sizes}
 use Rattle.refusal_rules.specs.Good.{GoodOrder, QuietLag, GoodSettings, GoodLags, Good}
-use Rattle.refusal_rules.proofs.Room.{lag-above, start-above, subframe-within}
+use Rattle.refusal_rules.proofs.Room.{lag-above, start-above, quiet-above, subframe-within}
 use Rattle.steps.specs.declared.structs.Given.{Given}
 use Rattle.steps.specs.Call.{Call, voicedBy, lowered, delayTurn, voicedDelay, quietDelay, delayBy, givenBy, givenOf, lagBy, twiceBy, secondBy, rewhitesBy, sinceBy, rowBy, fixBy, fixOf, countOf, Sound, Stocked, Room}
 
@@ -75,6 +75,27 @@ voiced-lag {s} {p} {lags} g h e k b =
     let a : 16 ≤ natZ (word lags k) = lag-above (g .l) (h .voiced e k b) in
     let d = voiced-early (natZ (s .«subfr_length»)) (natZ (s .«nb_subfr»)) lags k b in
     rw e (a, omega arith)
+
+-- ---- the decision delay again: it is 13 or more, since each lag that lowers it is 16 or more
+voiced-late : (l n : ℕ) (lags : List ℤ) → 13 ≤ l → ((k : ℕ) → k < n → 16 ≤ natZ (word lags k)) → 13 ≤ voicedDelay l n lags
+unfolding voicedDelay lowered
+voiced-late l n lags h f =
+    iter-inv (λ j (d : ℕ). 13 ≤ d) (delayTurn lags) n (min 40 l) (λ j q r. omega (arith, f j q, r)) (omega arith)
+
+quiet-late : (l prev : ℕ) → 13 ≤ l → (0 < prev → 16 ≤ prev) → 13 ≤ quietDelay l prev
+unfolding quietDelay lowered
+quiet-late l prev h f =
+    either-all (λ (d : ℕ). 13 ≤ d) (ltb 0 prev) _ _ (λ e. omega (arith, f (ltb-true 0 prev e))) (λ e. omega arith)
+
+-- the decision delay of a good call is 13 samples or more
+pub delay-13 : {s : Settings} {p : ℤ} {lags : List ℤ} → GoodSettings s → GoodLags (natZ (s .«nb_subfr»)) (s .«subfr_length») (s .signalType) p lags
+    → 13 ≤ givenBy s p lags .delay
+unfolding givenBy delayBy voicedBy
+delay-13 {s} {p} {lags} g h =
+    let l = g .l .among .least in
+    either-all (λ (d : ℕ). 13 ≤ d) (sameZ (s .signalType) (pos 2)) _ _
+    (λ e. voiced-late (natZ (s .«subfr_length»)) (natZ (s .«nb_subfr»)) lags (omega arith) (λ k b. lag-above (g .l) (h .voiced e k b)))
+    (λ e. quiet-late (natZ (s .«subfr_length»)) (natZ p) (omega arith) (λ b. lag-above (g .l) (quiet-above (h .prev e) b)))
 
 -- ---- what is given of a good call is sound
 pub sound-by : {s : Settings} {p : ℤ} {lags : List ℤ} → GoodSettings s → GoodLags (natZ (s .«nb_subfr»)) (s .«subfr_length») (s .signalType) p lags

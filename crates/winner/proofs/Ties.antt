@@ -2,14 +2,13 @@
 -- cheapest second candidate (`leastOf`), and the dearest first one (`worstOf`). Assumes nothing.
 use Prim.Native.Nat.{ℕ, suc, _<_}
 use native.Mathlib.Omega.{arith}
-use native.Mathlib.Decide.{decLt}
 use mathlib.Core.Path.{_≡_, refl}
 use mathlib.Core.Bool.{Bool, true, false}
 use mathlib.Core.List.{List, [], _∷_}
 use lib.IntN.{ℤ, pos}
 use lib.Signed.{ltZ}
 use Rattle.fixed.specs.Iter.{iter, either}
-use Rattle.fixed.proofs.Iters.{iter-keeps, either-all}
+use Rattle.fixed.proofs.Iters.{iter-keeps, either-all, one-more}
 use Rattle.fixed.proofs.Lin.{lt-true, lt-false}
 use Rattle.path.specs.declared.structs.Candidate.{Candidate}
 use Rattle.path.specs.Data.{candidateAt}
@@ -30,11 +29,6 @@ never-itself : (b : Bool) → (b ≡ true → b ≡ false) → b ≡ false
 never-itself true h = h refl
 never-itself false h = refl
 
--- j is below k, or k itself
-one-more : (Q : ℕ → Type 0) (j k : ℕ) → Dec (j < k) → j < suc k → (j < k → Q j) → Q k → Q j
-one-more Q j k (yes b) h before here = before b
-one-more Q j k (no n) h before here = let e : j ≡ k = omega arith in rw e here
-
 -- one more in the search
 first-turn : (beats : ℕ → ℕ → Bool) → Order beats → (k w : ℕ) → First beats k w → First beats (suc k) (either (beats k w) k w)
 first-turn beats o k w f =
@@ -42,10 +36,10 @@ first-turn beats o k w f =
     (λ e.
     let wins : (j : ℕ) → j < k → beats k j ≡ true = λ j b. o .over j k w e (f .best j b) in
     record {
-      best = λ j h. one-more (λ i. beats i k ≡ false) j k (decLt j k) h (λ b. o .not-both j k (wins j b)) (never-itself (beats k k) (o .not-both k k));
+      best = λ j h. one-more (λ i. beats i k ≡ false) j k h (λ b. o .not-both j k (wins j b)) (never-itself (beats k k) (o .not-both k k));
       lowest = wins;
     })
-    (λ e. record { best = λ j h. one-more (λ i. beats i w ≡ false) j k (decLt j k) h (f .best j) e; lowest = f .lowest })
+    (λ e. record { best = λ j h. one-more (λ i. beats i w ≡ false) j k h (f .best j) e; lowest = f .lowest })
 
 -- so the search of n finds the first of the best
 first-of : (beats : ℕ → ℕ → Bool) → Order beats → (n : ℕ) → First beats n (iter (λ k w. either (beats k w) k w) n 0)

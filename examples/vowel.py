@@ -1,0 +1,52 @@
+#!/usr/bin/env python3
+"""vowel.py > vowel.sheet: a call sheet with 20 ms of a sung vowel at 16000 samples a second, one frame of 4 subframes of 80 samples, coded with
+one path. It shows what a call is made of; a real encoder works its numbers out with more care. Nothing but Python's own library."""
+from math import cos, exp, pi, sin
+
+L, N_SUBFRAMES, ORDER, SHAPING, LAG = 80, 4, 16, 16, 128
+N = L * N_SUBFRAMES
+
+
+def vowel(length):
+    """pulses of the voice, LAG samples apart, through three resonances of the mouth"""
+    out = [0.0] * length
+    for start in range(0, length, LAG):
+        for hertz, width, height in ((700, 90, 3000), (1220, 110, 1700), (2600, 160, 700)):
+            for i in range(start, length):
+                t = (i - start) / 16000
+                out[i] += height * exp(-pi * width * t) * sin(2 * pi * hertz * t)
+    return [round(v) for v in out]
+
+
+def predictor(x, order):
+    """by the autocorrelation of the windowed samples (Levinson and Durbin): x[i] is about the sum of a[k] * x[i - 1 - k]"""
+    w = [v * (0.5 - 0.5 * cos(2 * pi * (i + 0.5) / len(x))) for i, v in enumerate(x)]
+    r = [sum(w[i] * w[i - k] for i in range(k, len(w))) for k in range(order + 1)]
+    r[0] = r[0] * 1.001 + 1
+    a, error = [], r[0]
+    for k in range(order):
+        c = (r[k + 1] - sum(a[j] * r[k - j] for j in range(k))) / error
+        a = [a[j] - c * a[k - 1 - j] for j in range(k)] + [c]
+        error *= 1 - c * c
+    return a
+
+
+def section(numbers):
+    print(len(numbers), *numbers)
+
+
+x = vowel(N)
+a = predictor(x, ORDER)
+pred = [round(4096 * v * 0.99 ** (k + 1)) for k, v in enumerate(a)]
+shape = [round(8192 * v * 0.7 ** (k + 1)) for k, v in enumerate(a[:SHAPING])]
+# L, n, prediction order, shaping order, paths, warping, signal type (voiced), offset type, interpolation, seed, Lambda, LTP scale
+section([L, N_SUBFRAMES, ORDER, SHAPING, 1, 0, 2, 0, 4, 1, 900, 14000])
+section(x)
+section(pred + pred)
+section([0, 2000, 9000, 2000, 0] * N_SUBFRAMES)
+section((shape + [0] * (24 - SHAPING)) * N_SUBFRAMES)
+section([3000] * N_SUBFRAMES)
+section([-4000] * N_SUBFRAMES)
+section([0] * N_SUBFRAMES)
+section([65536 * 40] * N_SUBFRAMES)
+section([LAG] * N_SUBFRAMES)
