@@ -10,13 +10,13 @@ use lib.Dec.{T}
 use lib.Signed.{ltZ, nonNeg}
 use mathlib.Core.Bool.{false}
 use native.Mathlib.Numerals.{add-one}
-use mir.Syntax.{w16}
+use mir.Syntax.{Width, w8, w16}
 use mir.Val.{SFits}
 use mir.Facts.{sfits-lit}
 use Rattle.silk.specs.State.{zeros}
 use Rattle.sheet_words.specs.Number.{Range, Read, got, bad, number}
-use Rattle.sheet_form.specs.Sections.{Kind, andThen, before, numbers, section, row, i16}
-use Rattle.sheet_form.specs.Rows.{Rest, left, stopped, padded, taken, takeSection, Halves}
+use Rattle.sheet_form.specs.Sections.{Kind, andThen, before, numbers, section, row, i8, i16}
+use Rattle.sheet_form.specs.Rows.{Rest, left, stopped, padded, taken, takeSection, Bytes, Halves}
 use Rattle.sheet_form.proofs.Numbers.{number-fits, number-range}
 use Rattle.fixed.proofs.Lin.{lt-false}
 
@@ -38,54 +38,65 @@ padded-at zs i = zeros-at zs (320 - length zs) i
 
 -- ---- the numbers that were read
 -- all numbers fit; 0 stands past the last
-abbrev All : List ℤ → Type 0
-All zs = (i : ℕ) → SFits w16 (getD zs i (pos 0))
+abbrev pub All : Width → List ℤ → Type 0
+All w zs = (i : ℕ) → SFits w (getD zs i (pos 0))
 
-abbrev AllRead : Read (List ℤ) → Type 0
-AllRead (got zs s) = All zs
-AllRead bad = Unit {0}
+abbrev AllRead : Width → Read (List ℤ) → Type 0
+AllRead w (got zs s) = All w zs
+AllRead w bad = Unit {0}
 
-none-fits : All []
-none-fits i = sfits-lit tt
+cons-fits : (w : Width) (z : ℤ) (zs : List ℤ) → SFits w z → All w zs → All w (z ∷ zs)
+cons-fits w z zs f h zero = f
+cons-fits w z zs f h (suc i) = h i
 
-cons-fits : (z : ℤ) (zs : List ℤ) → SFits w16 z → All zs → All (z ∷ zs)
-cons-fits z zs f h zero = f
-cons-fits z zs f h (suc i) = h i
-
-before-fits : (z : ℤ) (m : Read (List ℤ)) → SFits w16 z → AllRead m → AllRead (before z m)
+before-fits : (w : Width) (z : ℤ) (m : Read (List ℤ)) → SFits w z → AllRead w m → AllRead w (before z m)
 unfolding before
-before-fits z (got zs s) f h = cons-fits z zs f h
-before-fits z bad f h = tt
+before-fits w z (got zs s) f h = cons-fits w z zs f h
+before-fits w z bad f h = tt
 
-module _ (r : Range) (low-fits : SFits w16 (r .low)) (high-fits : SFits w16 (r .high)) where
-  then-fits : (n : ℕ) (s : List ℕ) (m : Read ℤ) → number r s ≡ m → ((t : List ℕ) → AllRead (numbers r n t)) → AllRead (andThen m (λ z t. before z (numbers r n t)))
+module _ (w : Width) (r : Range) (low-fits : SFits w (r .low)) (high-fits : SFits w (r .high)) (zero-fits : SFits w (pos 0)) where
+  none-fits : All w []
+  none-fits i = zero-fits
+
+  then-fits : (n : ℕ) (s : List ℕ) (m : Read ℤ) → number r s ≡ m → ((t : List ℕ) → AllRead w (numbers r n t)) → AllRead w (andThen m (λ z t. before z (numbers r n t)))
   unfolding andThen
-  then-fits n s (got z t) e h = before-fits z (numbers r n t) (number-fits w16 r s t z low-fits high-fits e) (h t)
+  then-fits n s (got z t) e h = before-fits w z (numbers r n t) (number-fits w r s t z low-fits high-fits e) (h t)
   then-fits n s bad e h = tt
 
-  pub numbers-fit : (n : ℕ) (s : List ℕ) → AllRead (numbers r n s)
+  pub numbers-fit : (n : ℕ) (s : List ℕ) → AllRead w (numbers r n s)
   unfolding numbers
   numbers-fit zero s = none-fits
   numbers-fit (suc n) s = then-fits n s (number r s) refl (numbers-fit n)
 
-  count-fits : (m : Read ℤ) → AllRead (andThen m (λ n t. numbers r (natAbs n) t))
+  count-fits : (m : Read ℤ) → AllRead w (andThen m (λ n t. numbers r (natAbs n) t))
   unfolding andThen
   count-fits (got n t) = numbers-fit (natAbs n) t
   count-fits bad = tt
 
-taken-fits : (k : ℕ) (m : Read (List ℤ)) → AllRead m → All (taken k m .row)
-unfolding taken
-taken-fits k (got zs s) h = h
-taken-fits k bad h = none-fits
+  taken-fits : (k : ℕ) (m : Read (List ℤ)) → AllRead w m → All w (taken k m .row)
+  unfolding taken
+  taken-fits k (got zs s) h = h
+  taken-fits k bad h = none-fits
+
+  -- the numbers of a section
+  row-fits : (k : ℕ) (rest : Rest) → All w (takeSection (row r) k rest .row)
+  unfolding takeSection section
+  row-fits k (left s) = taken-fits k _ (count-fits (number (row r .counts) s))
+  row-fits k (stopped j) = none-fits
 
 -- the numbers of a section of 16-bit numbers
-pub section-fits : (k : ℕ) (rest : Rest) → All (takeSection (row i16) k rest .row)
-unfolding takeSection section
-section-fits k (left s) = taken-fits k _ (count-fits i16 (sfits-lit tt) (sfits-lit tt) (number (row i16 .counts) s))
-section-fits k (stopped j) = none-fits
+pub section-fits : (k : ℕ) (rest : Rest) → All w16 (takeSection (row i16) k rest .row)
+section-fits k rest = row-fits w16 i16 (sfits-lit tt) (sfits-lit tt) (sfits-lit tt) k rest
 
-pub halves-fit : (zs : List ℤ) → All zs → Halves (padded zs)
+-- .. and of 8-bit numbers
+pub bytes-section-fits : (k : ℕ) (rest : Rest) → All w8 (takeSection (row i8) k rest .row)
+bytes-section-fits k rest = row-fits w8 i8 (sfits-lit tt) (sfits-lit tt) (sfits-lit tt) k rest
+
+pub halves-fit : (zs : List ℤ) → All w16 zs → Halves (padded zs)
 halves-fit zs h i = rw (padded-at zs i) (h i)
+
+pub bytes-fit : (zs : List ℤ) → All w8 zs → Bytes (padded zs)
+bytes-fit zs h i = rw (padded-at zs i) (h i)
 
 -- ---- a section by its count
 pub section-got : (kind : Kind) (s t : List ℕ) (n : ℤ) → number (kind .counts) s ≡ got n t → section kind s ≡ numbers (kind .words) (natAbs n) t

@@ -33,35 +33,40 @@ section-step kinds k (got zs s) = refl
 section-step kinds k bad = refl
 
 -- one section more
-from-step : (kind : Kind) (kinds : List Kind) (k : ℕ) (ρ σ : Rest) → σ ≡ takeSection kind k ρ .rest
+pub from-step : (kind : Kind) (kinds : List Kind) (k : ℕ) (ρ σ : Rest) → σ ≡ takeSection kind k ρ .rest
     → from (kind ∷ kinds) k ρ ≡ after (takeSection kind k ρ .row) (from kinds (suc k) σ)
 unfolding sections takeSection after
 from-step kind kinds k (left s) σ e = rw e (section-step kinds k (section kind s))
 from-step kind kinds k (stopped j) σ e = rw e
 
-start-either : (b : Bool) (s : List ℕ) → either b (fault 0) (sections layout 1 s) ≡ from layout 1 (either b (stopped 0) (left s))
-start-either true s = refl
-start-either false s = refl
+start-either : (kinds : List Kind) (b : Bool) (s : List ℕ) → either b (fault 0) (sections kinds 1 s) ≡ from kinds 1 (either b (stopped 0) (left s))
+start-either kinds true s = refl
+start-either kinds false s = refl
+
+-- the length first, then the sections from section 1 on
+pub from-first : (kinds : List Kind) (s : List ℕ) → either (ltb 65536 (length s)) (fault 0) (sections kinds 1 s) ≡ from kinds 1 (startRest s)
+unfolding startRest
+from-first kinds s = start-either kinds (ltb 65536 (length s)) s
 
 pub from-start : (s : List ℕ) → reading s ≡ from layout 1 (startRest s)
-unfolding reading startRest
-from-start s = start-either (ltb 65536 (length s)) s
+unfolding reading
+from-start s = from-first layout s
 
-from-end : (ρ : Rest) → from [] 11 ρ ≡ endOf ρ
+pub from-end : (k : ℕ) (ρ : Rest) → from [] k ρ ≡ endOf k ρ
 unfolding sections endOf
-from-end (left s) = refl
-from-end (stopped j) = refl
+from-end k (left s) = refl
+from-end k (stopped j) = refl
 
 -- ---- the end of the text
-pub end-good : (text : List ℕ) (at : ℕ) → length text ≤ at + run separator (drop at text) → sheet [] ≡ endOf (left (drop at text))
+pub end-good : (text : List ℕ) (k at : ℕ) → length text ≤ at + run separator (drop at text) → sheet [] ≡ endOf k (left (drop at text))
 unfolding endOf ended
-end-good text at h =
+end-good text k at h =
     let e : run separator (drop at text) ≡ length (drop at text) = omega (arith, run-le separator (drop at text), length-drop at text) in
     rw (eq-eqb _ _ e)
 
-pub end-bad : (text : List ℕ) (at : ℕ) → at + run separator (drop at text) < length text → fault 11 ≡ endOf (left (drop at text))
+pub end-bad : (text : List ℕ) (k at : ℕ) → at + run separator (drop at text) < length text → fault k ≡ endOf k (left (drop at text))
 unfolding endOf ended
-end-bad text at h = rw (ne-eqb (run separator (drop at text)) (length (drop at text)) (λ e. omega (arith, length-drop at text)))
+end-bad text k at h = rw (ne-eqb (run separator (drop at text)) (length (drop at text)) (λ e. omega (arith, length-drop at text)))
 
 -- ---- the ten
 module _ (ρ0 ρ1 ρ2 ρ3 ρ4 ρ5 ρ6 ρ7 ρ8 ρ9 ρ10 : Rest)
@@ -75,15 +80,15 @@ module _ (ρ0 ρ1 ρ2 ρ3 ρ4 ρ5 ρ6 ρ7 ρ8 ρ9 ρ10 : Rest)
     (e8 : ρ8 ≡ takeSection (row i32) 8 ρ7 .rest)
     (e9 : ρ9 ≡ takeSection (row i32) 9 ρ8 .rest)
     (e10 : ρ10 ≡ takeSection (row i32) 10 ρ9 .rest) where
-  ten : from layout 1 ρ0 ≡ after (takeSection settings 1 ρ0 .row) (after (takeSection (row i16) 2 ρ1 .row) (after (takeSection (row i16) 3 ρ2 .row) (after (takeSection (row i16) 4 ρ3 .row) (after (takeSection (row i16) 5 ρ4 .row) (after (takeSection (row i32) 6 ρ5 .row) (after (takeSection (row i32) 7 ρ6 .row) (after (takeSection (row i32) 8 ρ7 .row) (after (takeSection (row i32) 9 ρ8 .row) (after (takeSection (row i32) 10 ρ9 .row) (endOf ρ10))))))))))
+  ten : from layout 1 ρ0 ≡ after (takeSection settings 1 ρ0 .row) (after (takeSection (row i16) 2 ρ1 .row) (after (takeSection (row i16) 3 ρ2 .row) (after (takeSection (row i16) 4 ρ3 .row) (after (takeSection (row i16) 5 ρ4 .row) (after (takeSection (row i32) 6 ρ5 .row) (after (takeSection (row i32) 7 ρ6 .row) (after (takeSection (row i32) 8 ρ7 .row) (after (takeSection (row i32) 9 ρ8 .row) (after (takeSection (row i32) 10 ρ9 .row) (endOf 11 ρ10))))))))))
   unfolding layout
-  ten = from-step settings _ 1 ρ0 ρ1 e1 ∙ ap (after (takeSection settings 1 ρ0 .row)) (from-step (row i16) _ 2 ρ1 ρ2 e2 ∙ ap (after (takeSection (row i16) 2 ρ1 .row)) (from-step (row i16) _ 3 ρ2 ρ3 e3 ∙ ap (after (takeSection (row i16) 3 ρ2 .row)) (from-step (row i16) _ 4 ρ3 ρ4 e4 ∙ ap (after (takeSection (row i16) 4 ρ3 .row)) (from-step (row i16) _ 5 ρ4 ρ5 e5 ∙ ap (after (takeSection (row i16) 5 ρ4 .row)) (from-step (row i32) _ 6 ρ5 ρ6 e6 ∙ ap (after (takeSection (row i32) 6 ρ5 .row)) (from-step (row i32) _ 7 ρ6 ρ7 e7 ∙ ap (after (takeSection (row i32) 7 ρ6 .row)) (from-step (row i32) _ 8 ρ7 ρ8 e8 ∙ ap (after (takeSection (row i32) 8 ρ7 .row)) (from-step (row i32) _ 9 ρ8 ρ9 e9 ∙ ap (after (takeSection (row i32) 9 ρ8 .row)) (from-step (row i32) _ 10 ρ9 ρ10 e10 ∙ ap (after (takeSection (row i32) 10 ρ9 .row)) (from-end ρ10))))))))))
+  ten = from-step settings _ 1 ρ0 ρ1 e1 ∙ ap (after (takeSection settings 1 ρ0 .row)) (from-step (row i16) _ 2 ρ1 ρ2 e2 ∙ ap (after (takeSection (row i16) 2 ρ1 .row)) (from-step (row i16) _ 3 ρ2 ρ3 e3 ∙ ap (after (takeSection (row i16) 3 ρ2 .row)) (from-step (row i16) _ 4 ρ3 ρ4 e4 ∙ ap (after (takeSection (row i16) 4 ρ3 .row)) (from-step (row i16) _ 5 ρ4 ρ5 e5 ∙ ap (after (takeSection (row i16) 5 ρ4 .row)) (from-step (row i32) _ 6 ρ5 ρ6 e6 ∙ ap (after (takeSection (row i32) 6 ρ5 .row)) (from-step (row i32) _ 7 ρ6 ρ7 e7 ∙ ap (after (takeSection (row i32) 7 ρ6 .row)) (from-step (row i32) _ 8 ρ7 ρ8 e8 ∙ ap (after (takeSection (row i32) 8 ρ7 .row)) (from-step (row i32) _ 9 ρ8 ρ9 e9 ∙ ap (after (takeSection (row i32) 9 ρ8 .row)) (from-step (row i32) _ 10 ρ9 ρ10 e10 ∙ ap (after (takeSection (row i32) 10 ρ9 .row)) (from-end 11 ρ10))))))))))
 
-  pub ten-fault : (k : ℕ) → endOf ρ10 ≡ fault k → from layout 1 ρ0 ≡ fault k
+  pub ten-fault : (k : ℕ) → endOf 11 ρ10 ≡ fault k → from layout 1 ρ0 ≡ fault k
   unfolding after
   ten-fault k e = ten ∙ rw e
 
-  pub ten-good : endOf ρ10 ≡ sheet [] → from layout 1 ρ0 ≡ sheet ((takeSection settings 1 ρ0 .row) ∷ (takeSection (row i16) 2 ρ1 .row) ∷ (takeSection (row i16) 3 ρ2 .row) ∷ (takeSection (row i16) 4 ρ3 .row) ∷ (takeSection (row i16) 5 ρ4 .row) ∷ (takeSection (row i32) 6 ρ5 .row) ∷ (takeSection (row i32) 7 ρ6 .row) ∷ (takeSection (row i32) 8 ρ7 .row) ∷ (takeSection (row i32) 9 ρ8 .row) ∷ (takeSection (row i32) 10 ρ9 .row) ∷ [])
+  pub ten-good : endOf 11 ρ10 ≡ sheet [] → from layout 1 ρ0 ≡ sheet ((takeSection settings 1 ρ0 .row) ∷ (takeSection (row i16) 2 ρ1 .row) ∷ (takeSection (row i16) 3 ρ2 .row) ∷ (takeSection (row i16) 4 ρ3 .row) ∷ (takeSection (row i16) 5 ρ4 .row) ∷ (takeSection (row i32) 6 ρ5 .row) ∷ (takeSection (row i32) 7 ρ6 .row) ∷ (takeSection (row i32) 8 ρ7 .row) ∷ (takeSection (row i32) 9 ρ8 .row) ∷ (takeSection (row i32) 10 ρ9 .row) ∷ [])
   unfolding after
   ten-good e = ten ∙ rw e
 

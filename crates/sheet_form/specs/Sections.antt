@@ -14,6 +14,10 @@ pub record Kind : Type 0 where
   pub counts : Range
   pub words : Range
 
+-- the numbers of an i8
+abbrev pub i8 : Range
+i8 = record { low = negsuc 127; high = pos 127 }
+
 -- the numbers of an i16
 abbrev pub i16 : Range
 i16 = record { low = negsuc 32767; high = pos 32767 }
@@ -25,6 +29,10 @@ i32 = record { low = negsuc 2147483647; high = pos 2147483647 }
 -- section 1: exactly 12 settings
 abbrev pub settings : Kind
 settings = record { counts = record { low = pos 12; high = pos 12 }; words = i32 }
+
+-- exactly three numbers; no section of a call sheet is one
+abbrev pub triple : Kind
+triple = record { counts = record { low = pos 3; high = pos 3 }; words = i32 }
 
 -- any other: 0 to 320 numbers
 abbrev pub row : Range → Kind

@@ -40,10 +40,10 @@ sheetOf (fault k) = sheetWith (verdict.Fault k) []
 unfoldable pub startRest : List ℕ → Rest
 startRest s = either (ltb 65536 (length s)) (stopped 0) (left s)
 
--- what is found after the ten sections
-unfoldable pub endOf : Rest → Reading
-endOf (left s) = ended 11 s
-endOf (stopped k) = fault k
+-- what is found after the last section, where words that follow are fault k
+unfoldable pub endOf : ℕ → Rest → Reading
+endOf k (left s) = ended k s
+endOf k (stopped j) = fault j
 
 -- a verdict as a reading: good, with no section yet
 abbrev pub verdictOf : Verdict → Reading

@@ -6,12 +6,13 @@ ghost use mir.Syntax.{w32};
 ghost use mir.Val.{SFits};
 ghost use lib.ListN.{drop};
 ghost use Rattle.sheet_words.specs.Number.{number};
-ghost use Rattle.sheet_form.specs.Sections.{numbers as numbersZ, section as sectionZ, settings, row, i16, i32};
+ghost use Rattle.sheet_form.specs.Sections.{numbers as numbersZ, section as sectionZ, settings, triple, row, i8, i16, i32};
 ghost use Rattle.sheet_form.specs.Found.{range};
-ghost use Rattle.sheet_form.specs.Rows.{Took, Took16, Halves, restAt, taken, takeSection, row32, kind};
+ghost use Rattle.sheet_form.specs.Rows.{Took, Took8, Took16, Bytes, Halves, restAt, taken, takeSection, row32, kind};
 use crate::blank;
 use crate::number;
 use crate::number::Number;
+use crate::rows::Row8;
 use crate::rows::Row16;
 use crate::rows::Row32;
 
@@ -31,6 +32,12 @@ pub struct Section {
 pub struct HalfSection {
     pub next: Place,
     pub row: Row16,
+}
+
+// A section of 8-bit numbers that was read.
+pub struct ByteSection {
+    pub next: Place,
+    pub row: Row8,
 }
 
 // No section: the fault k.
@@ -102,6 +109,13 @@ pub fn settings_section(text: &[u8], from: Place) -> Section
     section_of(text, from, 1, 12, 12, -2147483648, 2147483647)
 }
 
+// Section k: exactly three numbers of 32 bits.
+pub fn triple_section(text: &[u8], from: Place, k: u32) -> Section
+    ensures { λ r. ⌜ Took (now (text .entry)) (takeSection triple k (restAt (now (text .entry)) from)) (r .next) (r .row) ⌝ }
+{
+    section_of(text, from, k, 3, 3, -2147483648, 2147483647)
+}
+
 // Section k with 0 to 320 numbers of 32 bits.
 pub fn section32(text: &[u8], from: Place, k: u32) -> Section
     ensures { λ r. ⌜ Took (now (text .entry)) (takeSection (row i32) k (restAt (now (text .entry)) from)) (r .next) (r .row) ⌝ }
@@ -134,6 +148,35 @@ pub fn section16(text: &[u8], from: Place, k: u32) -> HalfSection
         row: Row16 {
             count: full.count,
             words: halves(words),
+        },
+    }
+}
+
+// The same words in 8 bits.
+fn bytes(words: [i32; 320]) -> [i8; 320]
+    requires { ⌜ Bytes words ⌝ }
+    ensures { λ r. ⌜ r ≡ words ⌝ }
+{
+    let mut out = blank::zeros8();
+    for i in 0..320 {
+        out[i] = words[i] as i8;
+    }
+    out
+}
+
+// Section k with 0 to 320 numbers of 8 bits.
+pub fn section8(text: &[u8], from: Place, k: u32) -> ByteSection
+    ensures { λ r. ⌜ Took8 (now (text .entry)) (takeSection (row i8) k (restAt (now (text .entry)) from)) (r .next) (r .row) ⌝ }
+{
+    let s = section_of(text, from, k, 0, 320, -128, 127);
+    let next = s.next;
+    let full = s.row;
+    let words = full.words;
+    ByteSection {
+        next,
+        row: Row8 {
+            count: full.count,
+            words: bytes(words),
         },
     }
 }

@@ -42,8 +42,8 @@ pub struct Sheet {
     pub lags: Row32,
 }
 
-// The length is looked at first.
-fn start(text: &[u8]) -> Place
+// Where a sheet starts. The length is looked at first.
+pub fn start(text: &[u8]) -> Place
     ensures { λ r. ⌜ restAt (now (text .entry)) r ≡ startRest (now (text .entry)) ⌝ }
 {
     if MOST_BYTES < text.len() {
@@ -53,19 +53,19 @@ fn start(text: &[u8]) -> Place
     }
 }
 
-// After the last section only separators may follow.
-fn end(text: &[u8], from: Place) -> Verdict
-    ensures { λ r. ⌜ verdictOf r ≡ endOf (restAt (now (text .entry)) from) ⌝ }
+// After the last section only separators may follow, else there is fault k.
+pub fn end(text: &[u8], from: Place, k: u32) -> Verdict
+    ensures { λ r. ⌜ verdictOf r ≡ endOf k (restAt (now (text .entry)) from) ⌝ }
 {
     match from {
         Place::At(at) => {
             if text.len() <= words::end_of_run(text, at, Class::Separator) {
                 Verdict::Good
             } else {
-                Verdict::Fault(11)
+                Verdict::Fault(k)
             }
         }
-        Place::Fault(k) => Verdict::Fault(k),
+        Place::Fault(j) => Verdict::Fault(j),
     }
 }
 
@@ -138,7 +138,7 @@ pub fn read(text: &[u8]) -> Sheet
     let at10 = s9.next;
     let s10 = section::section32(text, at10, 10);
     let at11 = s10.next;
-    match end(text, at11) {
+    match end(text, at11, 11) {
         Verdict::Fault(k) => faulty(k),
         Verdict::Good => {
             let row = first.row;

@@ -8,8 +8,8 @@ ghost use Rattle.pages.specs.Page.{page, puts};
 ghost use Rattle.sheet_text.specs.Text.{lineOf, afterPulse, pulseLines, answerText, faultText};
 use pages::page;
 
-// A word, a number and a line feed.
-fn number_line(out: &mut [u8], used: usize, word: &[u8], n: u32) -> usize
+// A word, a number and a line feed, after the `used` bytes of the buffer.
+pub fn number_line(out: &mut [u8], used: usize, word: &[u8], n: u32) -> usize
     ensures { λ r. ⌜ page r (now (out .exit)) ≡ puts (lineOf (now (word .entry)) (pos n)) (page used (now (out .entry))) ⌝ }
 {
     let a = page::put_all(out, used, word);
@@ -47,6 +47,19 @@ fn pulse_lines(out: &mut [u8], used: usize, pulses: &[i8]) -> usize
     let mut m = used;
     for i in 0..n {
         let k = page::decimal(out, m, pulses[i] as i32);
+        m = page::put(out, k, after_pulse(n, i));
+    }
+    m
+}
+
+// Values of 32 bits, in such lines.
+pub fn value_lines(out: &mut [u8], used: usize, values: &[i32]) -> usize
+    ensures { λ r. ⌜ page r (now (out .exit)) ≡ puts (pulseLines (length (now (values .entry))) 0 (now (values .entry))) (page used (now (out .entry))) ⌝ }
+{
+    let n = values.len();
+    let mut m = used;
+    for i in 0..n {
+        let k = page::decimal(out, m, values[i]);
         m = page::put(out, k, after_pulse(n, i));
     }
     m

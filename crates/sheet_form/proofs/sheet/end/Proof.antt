@@ -21,14 +21,14 @@ returns c =
     let e = c .before in
     let g = e .before .before in
     let a = g .before .before .before .args in
-    rw (g .from .given .1) (end-good (now (a .text)) (g .from .given .0 .0) (omega (arith, e .end-of-run .ensures)))
+    rw (g .from .given .1) (end-good (now (a .text)) (a .k) (g .from .given .0 .0) (omega (arith, e .end-of-run .ensures)))
 
 returns-2 : tie.Need-returns-2
 returns-2 c =
     let e = c .before in
     let g = e .before .before in
     let a = g .before .before .before .args in
-    rw (g .from .given .1) (end-bad (now (a .text)) (g .from .given .0 .0) (omega (arith, e .end-of-run .ensures)))
+    rw (g .from .given .1) (end-bad (now (a .text)) (a .k) (g .from .given .0 .0) (omega (arith, e .end-of-run .ensures)))
 
 returns-3 : tie.Need-returns-3
 unfolding endOf

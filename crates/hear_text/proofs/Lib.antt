@@ -1,0 +1,5 @@
+-- Parts: the parts of the text, put together. Room: how long it can be. Unique: one outcome. Examples: small texts, computed.
+pub mod Parts
+pub mod Room
+pub mod Unique
+pub mod Examples
