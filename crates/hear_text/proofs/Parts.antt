@@ -4,6 +4,7 @@ use mathlib.Core.List.{List, [], _∷_, _++_}
 use Prim.Native.Nat.{ℕ, zero, suc, _-_, _≤_}
 use native.Mathlib.Omega.{arith}
 use lib.ListN.{length, take, replicate}
+use lib.Seq.{take-append-seam}
 use lib.IntN.{ℤ, pos}
 use borrow.Author.Tests.{ne-eqb}
 use Rattle.silk.specs.State.{zeros}
@@ -46,13 +47,9 @@ take-short zero zs = omega arith
 take-short (suc n) [] = omega arith
 take-short (suc n) (z ∷ zs) = let l = take-short n zs in omega arith
 
-pub take-first : {A : Type 0} (zs ys : List A) → take (length zs) (zs ++ ys) ≡ zs
-take-first [] ys = refl
-take-first {A = A} (z ∷ zs) ys = ap (λ (l : List A). z ∷ l) (take-first zs ys)
-
 padded-first : (zs : List ℤ) → take (length zs) (padded zs) ≡ zs
 unfolding padded
-padded-first zs = take-first zs (zeros (320 - length zs))
+padded-first zs = take-append-seam zs (zeros (320 - length zs))
 
 -- ---- the two sections one after the other
 module _ (ρ0 ρ1 ρ2 : Rest) (e1 : ρ1 ≡ takeSection triple 1 ρ0 .rest) (e2 : ρ2 ≡ takeSection (row i8) 2 ρ1 .rest) where

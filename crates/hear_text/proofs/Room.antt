@@ -7,6 +7,7 @@ use native.Mathlib.Omega.{arith}
 use native.Mathlib.Decide.{decLt}
 use native.Mathlib.Numerals.{add-one}
 use lib.ListN.{length, getD, take, drop, length-append}
+use lib.Seq.{take-append-seam}
 use lib.IntN.{ℤ, pos, negsuc, negℤ}
 use lib.Dec.{eqb, ltb}
 use borrow.Author.Tests.{ne-eqb}
@@ -37,7 +38,7 @@ use Rattle.excitation.specs.Refused.{answerOf}
 use Rattle.excitation.specs.Reading.{heardRow, heardBy, reading}
 use Rattle.excitation.proofs.Accepted.{accepted-good}
 use Rattle.hear_text.specs.Heard.{answerText, heardText, callText, sectionsText, textOf, hearText}
-use Rattle.hear_text.proofs.Parts.{take-first, by-form, two}
+use Rattle.hear_text.proofs.Parts.{by-form, two}
 use Rattle.hear_text.proofs.hear.hear.Reads as hear
 
 -- ---- decimal numbers
@@ -212,4 +213,4 @@ pub hear-leaves : (κs a r e : _) → hear.Post κs a r e → length (now (a .1 
 hear-leaves κs a r e p l =
     let s = hearText (now (a .0)) in
     let same = parts r (length s) _ _ (p ∙ text-room (now (a .0)) (now (a .1 .0)) l) in
-    rw (same .0, same .1) (take-first s _)
+    rw (same .0, same .1) (take-append-seam s _)

@@ -5,12 +5,15 @@ use mathlib.Core.Path.{_≡_, refl}
 use mathlib.Core.List.{List, [], _∷_}
 use lib.ListN.{replicate}
 use lib.IntN.{ℤ, pos}
+use mir.Syntax.{w32}
+use mir.Val.{SFits}
+use mir.Facts.{sfits-lit}
 use Rattle.silk.specs.State.{zeros, freshLag, freshState}
 use Rattle.refusal_rules.specs.Code.{codeOf}
 use Rattle.limits.specs.Tests.{outside, lengthAllowed, countAllowed, orderFor, oddZ, lengthsRefused, ordersRefused, pathsRefused, kindsRefused, gainRefused, someGain, gainsRefused, lagRefused, quietLagRefused, someLag, lastOf, lagsRefused}
 use Rattle.refusal_rules.specs.Table.{eachRefused, rowsRefused, table, answerOf}
 use Rattle.silk.specs.declared.structs.Settings.{Settings}
-use Rattle.steps.specs.Call.{Call, callOf}
+use Rattle.steps.specs.Call.{Call, callOf, givenBy, pathsOf}
 use Rattle.steps.specs.Entry.{answered}
 use Rattle.steps.specs.Sizes.{sizesOf}
 
@@ -53,3 +56,8 @@ pub accepted-examples :
     ≡ (0 ∷ 0 ∷ 0 ∷ 0 ∷ [])
 unfolding silent numberOf set freshState freshLag zeros sizesOf answered outside lengthAllowed countAllowed orderFor oddZ lengthsRefused ordersRefused pathsRefused kindsRefused eachRefused rowsRefused gainRefused someGain gainsRefused lagRefused quietLagRefused someLag lastOf lagsRefused table answerOf
 accepted-examples = refl
+
+-- each of these calls has one path and an i32 Lambda, so what is said of such calls (request E1) is not empty
+pub one-path : (l n order : ℕ) (kind lag : ℤ) → (pathsOf (silent l n order kind lag) ≡ 1) × SFits w32 (silent l n order kind lag .settings .«Lambda_Q10»)
+unfolding silent set givenBy
+one-path l n order kind lag = (refl, sfits-lit tt)
