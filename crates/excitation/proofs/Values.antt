@@ -1,5 +1,5 @@
 -- What a pulse stands for: the RFC's value by the sign of its pulse, and that it fits a word. Assumes nothing.
-use Prim.Native.Nat.{ℕ, zero, suc, _^_}
+use Prim.Native.Nat.{zero, suc}
 use native.Mathlib.Omega.{arith}
 use mathlib.Core.Path.{_≡_, refl, sym, ap, _∙_}
 use mathlib.Core.Bool.{true, false}
@@ -8,7 +8,7 @@ use lib.Signed.{ltZ, _≤ℤ_}
 use mir.Syntax.{w8, w32}
 use mir.Val.{SFits}
 use Rattle.fixed.specs.Wrap.{wrap32}
-use Rattle.fixed.proofs.Lin.{P, N, eq-of, add-lin, sub-lin-Z, neg-lin, le-lin, lt-true, lt-false, sfits-lin, sfits-of-lin}
+use Rattle.fixed.proofs.Lin.{eq-of, sub-lin-Z, neg-lin, le-lin, lt-true, lt-false, sfits-lin, sfits-of-lin}
 use Rattle.fixed.proofs.Wraps.{wrap32-add-l, wrap32-sub-l}
 use Rattle.choice.proofs.Rfc.{value-lin, sign-size}
 use Rattle.rfc6716.specs.Excitation.{sign, value}

@@ -1,6 +1,6 @@
 -- The parts of the text, as the code puts them together. Assumes nothing.
 use mathlib.Core.Path.{_≡_, refl, sym, ap, _∙_}
-use mathlib.Core.List.{List, [], _∷_, _++_}
+use mathlib.Core.List.{List, [], _∷_}
 use Prim.Native.Nat.{ℕ, zero, suc, _-_, _≤_}
 use native.Mathlib.Omega.{arith}
 use lib.ListN.{length, take, replicate}
@@ -11,9 +11,8 @@ use Rattle.silk.specs.State.{zeros}
 use Rattle.pages.specs.Page.{Page, puts}
 use Rattle.pages.proofs.Pages.{puts-append}
 use Rattle.sheet_form.specs.Sections.{fault, sheet, triple, row, i8, after}
-use Rattle.sheet_form.specs.Rows.{Rest, takeSection, row8, row32, padded}
+use Rattle.sheet_form.specs.Rows.{Rest, takeSection, row32, padded}
 use Rattle.sheet_form.specs.Sheets.{startRest, endOf}
-use Rattle.sheet_form.specs.declared.rows.Row8.{Row8}
 use Rattle.sheet_form.specs.declared.rows.Row32.{Row32}
 use Rattle.sheet_form.proofs.Fitting.{padded-at}
 use Rattle.sheet_form.proofs.Whole.{from, from-first, from-step, from-end}
@@ -40,12 +39,6 @@ take-zeros (suc n) (suc m) h = ap (λ (zs : List ℤ). pos 0 ∷ zs) (take-zeros
 pub zeros-first : (n : ℕ) → n ≤ 320 → take n (zeros 320) ≡ zeros n
 unfolding zeros
 zeros-first n h = take-zeros n 320 h
-
--- the first words of a row are no more than the row has
-pub take-short : (n : ℕ) (zs : List ℤ) → length (take n zs) ≤ length zs
-take-short zero zs = omega arith
-take-short (suc n) [] = omega arith
-take-short (suc n) (z ∷ zs) = let l = take-short n zs in omega arith
 
 padded-first : (zs : List ℤ) → take (length zs) (padded zs) ≡ zs
 unfolding padded
@@ -76,7 +69,7 @@ module _ (ρ0 ρ1 ρ2 : Rest) (e1 : ρ1 ≡ takeSection triple 1 ρ0 .rest) (e2 
     text-fault k e = sym (by-form ∙ ap textOf (two-fault k e))
 
     -- the text of a call, by the rows as the code holds them
-    pub text-good : (x : Row32) (y : Row8) → x ≡ row32 (takeSection triple 1 ρ0 .row) → y ≡ row8 (takeSection (row i8) 2 ρ1 .row) → endOf 3 ρ2 ≡ sheet []
+    pub text-good : (x y : Row32) → x ≡ row32 (takeSection triple 1 ρ0 .row) → y ≡ row32 (takeSection (row i8) 2 ρ1 .row) → endOf 3 ρ2 ≡ sheet []
         → sectionsText (x .words) (take (y .count) (y .words)) ≡ hearText s
     unfolding textOf sectionsText
     text-good x y f g e =

@@ -2,7 +2,7 @@
 -- each sample. Assumes nothing.
 use Prim.Native.Nat.{ℕ, _+_, _*_, _<_}
 use native.Mathlib.Omega.{arith}
-use mathlib.Core.Path.{_≡_, sym, ap, _∙_, subst}
+use mathlib.Core.Path.{_≡_, sym, ap, _∙_}
 use mathlib.Core.List.{List}
 use lib.ListN.{length}
 use lib.IntN.{ℤ, pos, _*ℤ_}
@@ -12,14 +12,14 @@ use Rattle.fixed.specs.Row.{word}
 use Rattle.excitation.specs.declared.answer.Answer.the-variants.{Accepted}
 use Rattle.excitation.specs.Code as excitation
 use Rattle.excitation.specs.Refused.{answerOf}
-use Rattle.excitation.specs.Reading.{Heard, heard, heardRow, heardBy, reading}
+use Rattle.excitation.specs.Reading.{Heard, heard, heardRow, reading}
 use Rattle.excitation.proofs.Accepted.{Good, good-accepted, heard-accepted}
 use Rattle.refusal_rules.specs.Code.{codeOf}
 use Rattle.steps.specs.Among.{Rule}
 use Rattle.steps.specs.Call.{Call, lengthOf, countOf, pathsOf}
 use Rattle.steps.specs.Entry.{answered, outcome}
 use Rattle.heard.specs.Inside.{usedAt}
-use Rattle.heard.specs.Heard.{farEnd, heardAt}
+use Rattle.heard.specs.Heard.{farEnd}
 use Rattle.heard.proofs.Accepted.{kinds-in-range, seed-in-range, frame-320, pulses-long}
 use Rattle.heard.proofs.Theorems as theorems
 

@@ -1,8 +1,7 @@
 -- With one path the far end hears what was meant: at every sample of every accepted call the excitation that was used inside is 64 times what the
 -- RFC's reader makes of the pulses and the seed handed out. For every rule of replacement. Assumes nothing.
-use Prim.Native.Nat.{ℕ, suc, _+_, _*_, _/_, _%_, _^_, _<_, _≤_}
+use Prim.Native.Nat.{ℕ, suc, _+_, _*_, _/_, _%_, _<_}
 use native.Mathlib.Omega.{arith}
-use native.Mathlib.Nat.{mod-eq-of-lt}
 use mathlib.Core.Path.{_≡_, refl, sym, ap, _∙_, subst}
 use mathlib.Core.List.{List}
 use lib.ListN.{length}
@@ -10,7 +9,7 @@ use lib.IntN.{ℤ, pos, _+ℤ_, _*ℤ_}
 use mir.Syntax.{w32}
 use mir.Val.{SFits}
 use Rattle.fixed.specs.Row.{word}
-use Rattle.fixed.specs.Wrap.{modZ, wrap32}
+use Rattle.fixed.specs.Wrap.{wrap32}
 use Rattle.fixed.specs.Shift.{shl32}
 use Rattle.fixed.proofs.Blocks.{block-of}
 use Rattle.seeds.specs.Generator.{rand}
@@ -21,6 +20,7 @@ use Rattle.limits.specs.Count.{natZ}
 use Rattle.rfc6716.specs.Excitation.{«offset_Q23», excitation}
 use Rattle.rfc6716.proofs.Offsets.{offset-range}
 use Rattle.excitation.specs.Reading.{heardRow}
+use Rattle.excitation.proofs.Accepted.{seed-word}
 use Rattle.refusal_rules.specs.Code.{codeOf}
 use Rattle.refusal_rules.proofs.Room.{subframe-within}
 use Rattle.path.specs.Data.{ringPred, ringAt}
@@ -48,9 +48,6 @@ fix-offset : (c : Call) (k : ℕ) → fixOf c k .«offset_Q10» ≡ offsetOf (na
 unfolding fixBy givenBy
 fix-offset c k = refl
 
-seed-mod : (n : ℕ) → n ≤ 3 → n ≡ modZ (pos n) (2 ^ 32)
-seed-mod n h = sym (mod-eq-of-lt (let z : n < 2 ^ 32 = omega arith in z))
-
 module _ (rule : Rule) (c : Call) (x out : List ℤ) (e : codeOf (answered c x out) ≡ 0) (one : pathsOf c ≡ 1) (fit : SFits w32 (c .settings .«Lambda_Q10»)) where
   -- each level is that of a pulse, at an offset that is four times the RFC's
   levels : (h : ℕ) → h < countOf c * lengthOf c → Level (rfcOffset c *ℤ pos 4) (levelAt rule c x out h)
@@ -73,7 +70,7 @@ module _ (rule : Rule) (c : Call) (x out : List ℤ) (e : codeOf (answered c x o
       let b = offset-range (natZ (c .settings .signalType)) (natZ (c .settings .quantOffsetType)) (a .0 .most) (a .1 .most) in
       let n : (h : ℕ) → h < length (pulseRow rule c x out m) → h < m = λ h z. subst (λ (y : ℕ). h < y) (row-long rule c x out m) z in
       read-all (rfcOffset c) (givenSeed c) (levelAt rule c x out) (b .0) (b .1) (pulseRow rule c x out m) (natZ (c .settings .Seed))
-      (seed-mod (natZ (c .settings .Seed)) (seed-in-range c x out e .most)) (λ h z. levels h (n h z)) (λ h z. row-rounds rule c x out m h (n h z)) h
+      (sym (seed-word (pos (natZ (c .settings .Seed))) refl (seed-in-range c x out e .most))) (λ h z. levels h (n h z)) (λ h z. row-rounds rule c x out m h (n h z)) h
       (subst (λ (y : ℕ). h < y) (sym (row-long rule c x out m)) q)
 
 -- ---- the theorems: an accepted call with one path, and an i32 Lambda (the code has no other)

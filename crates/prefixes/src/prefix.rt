@@ -3,17 +3,6 @@ ghost use denote.Ref.{now};
 ghost use mathlib.Core.Path.{_≡_};
 ghost use lib.ListN.{take};
 
-// ..of 8-bit words.
-pub fn first8<'a>(row: &'a [i8; 320], n: usize) -> &'a [i8]
-    ensures { λ r. ⌜ now r ≡ take n (now (row .entry)) ⌝ }
-{
-    let all = &row[..];
-    if 320 <= n {
-        return all;
-    }
-    &all[0..n]
-}
-
 // ..of 16-bit words.
 pub fn first16<'a>(row: &'a [i16; 320], n: usize) -> &'a [i16]
     ensures { λ r. ⌜ now r ≡ take n (now (row .entry)) ⌝ }

@@ -16,7 +16,7 @@ use mir.Facts.{sfits-lit}
 use Rattle.silk.specs.State.{zeros}
 use Rattle.sheet_words.specs.Number.{Range, Read, got, bad, number}
 use Rattle.sheet_form.specs.Sections.{Kind, andThen, before, numbers, section, row, i8, i16}
-use Rattle.sheet_form.specs.Rows.{Rest, left, stopped, padded, taken, takeSection, Bytes, Halves}
+use Rattle.sheet_form.specs.Rows.{Rest, left, stopped, padded, taken, takeSection, All}
 use Rattle.sheet_form.proofs.Numbers.{number-fits, number-range}
 use Rattle.fixed.proofs.Lin.{lt-false}
 
@@ -37,10 +37,6 @@ unfolding padded
 padded-at zs i = zeros-at zs (320 - length zs) i
 
 -- ---- the numbers that were read
--- all numbers fit; 0 stands past the last
-abbrev pub All : Width → List ℤ → Type 0
-All w zs = (i : ℕ) → SFits w (getD zs i (pos 0))
-
 abbrev AllRead : Width → Read (List ℤ) → Type 0
 AllRead w (got zs s) = All w zs
 AllRead w bad = Unit {0}
@@ -92,11 +88,16 @@ section-fits k rest = row-fits w16 i16 (sfits-lit tt) (sfits-lit tt) (sfits-lit 
 pub bytes-section-fits : (k : ℕ) (rest : Rest) → All w8 (takeSection (row i8) k rest .row)
 bytes-section-fits k rest = row-fits w8 i8 (sfits-lit tt) (sfits-lit tt) (sfits-lit tt) k rest
 
-pub halves-fit : (zs : List ℤ) → All w16 zs → Halves (padded zs)
-halves-fit zs h i = rw (padded-at zs i) (h i)
+-- and the row with its zeros
+pub padded-fit : (w : Width) (zs : List ℤ) → All w zs → All w (padded zs)
+padded-fit w zs h i = rw (padded-at zs i) (h i)
 
-pub bytes-fit : (zs : List ℤ) → All w8 zs → Bytes (padded zs)
-bytes-fit zs h i = rw (padded-at zs i) (h i)
+-- and its first words
+pub take-fit : (w : Width) (n : ℕ) (zs : List ℤ) → SFits w (pos 0) → All w zs → All w (take n zs)
+take-fit w zero zs z h i = z
+take-fit w (suc n) [] z h i = z
+take-fit w (suc n) (x ∷ zs) z h zero = h zero
+take-fit w (suc n) (x ∷ zs) z h (suc i) = take-fit w n zs z (λ j. h (suc j)) i
 
 -- ---- a section by its count
 pub section-got : (kind : Kind) (s t : List ℕ) (n : ℤ) → number (kind .counts) s ≡ got n t → section kind s ≡ numbers (kind .words) (natAbs n) t

@@ -4,7 +4,7 @@ use mathlib.Core.Path.{_≡_}
 use Prim.Native.Nat.{ℕ, _-_}
 use mathlib.Core.List.{List, [], _++_}
 use lib.ListN.{length, drop, getD}
-use mir.Syntax.{w8, w16}
+use mir.Syntax.{Width}
 use mir.Val.{SFits}
 use lib.IntN.{ℤ, pos}
 use Rattle.silk.specs.State.{zeros}
@@ -12,7 +12,6 @@ use Rattle.sheet_words.specs.Number.{Read, got, bad}
 use Rattle.sheet_form.specs.Sections.{Kind, section}
 use Rattle.sheet_form.specs.declared.section.Place.{Place}
 use Rattle.sheet_form.specs.declared.section.Place.the-variants as place
-use Rattle.sheet_form.specs.declared.rows.Row8.{Row8}
 use Rattle.sheet_form.specs.declared.rows.Row16.{Row16}
 use Rattle.sheet_form.specs.declared.rows.Row32.{Row32}
 
@@ -57,10 +56,6 @@ row32 zs = record { count = length zs; words = padded zs }
 abbrev pub row16 : List ℤ → Row16
 row16 zs = record { count = length zs; words = padded zs }
 
--- the row of these numbers, of 8 bits
-abbrev pub row8 : List ℤ → Row8
-row8 zs = record { count = length zs; words = padded zs }
-
 -- the kind of a section, by the bounds of its count and of its numbers
 abbrev pub kind : ℕ → ℕ → ℤ → ℤ → Kind
 kind least most l h = record { counts = record { low = pos least; high = pos most }; words = record { low = l; high = h } }
@@ -75,15 +70,6 @@ pub record Took16 (text : List ℕ) (t : Taken) (next : Place) (row : Row16) : T
   pub same-rest : restAt text next ≡ t .rest
   pub same-row : row ≡ row16 (t .row)
 
--- .. and of 8-bit words
-pub record Took8 (text : List ℕ) (t : Taken) (next : Place) (row : Row8) : Type 0 where
-  pub same-rest : restAt text next ≡ t .rest
-  pub same-row : row ≡ row8 (t .row)
-
--- every word fits 8 bits
-abbrev pub Bytes : List ℤ → Type 0
-Bytes words = (i : ℕ) → SFits w8 (getD words i (pos 0))
-
--- every word fits 16 bits
-abbrev pub Halves : List ℤ → Type 0
-Halves words = (i : ℕ) → SFits w16 (getD words i (pos 0))
+-- every word fits the width; 0 stands past the last
+abbrev pub All : Width → List ℤ → Type 0
+All w words = (i : ℕ) → SFits w (getD words i (pos 0))

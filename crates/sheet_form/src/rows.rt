@@ -3,13 +3,7 @@
 // The numbers that a section can have, at most.
 pub const MOST: usize = 320;
 
-// A row of 8-bit numbers: the first `count` words, and zeros after them.
-pub struct Row8 {
-    pub count: usize,
-    pub words: [i8; MOST],
-}
-
-// A row of 16-bit numbers.
+// A row of 16-bit numbers: the first `count` words, and zeros after them.
 pub struct Row16 {
     pub count: usize,
     pub words: [i16; MOST],

@@ -2,17 +2,16 @@
 ghost use mathlib.Core.Path.{_≡_};
 ghost use mathlib.Core.List.{[]};
 ghost use Prim.Native.Nat.{_≤_};
-ghost use mir.Syntax.{w32};
+ghost use mir.Syntax.{w16, w32};
 ghost use mir.Val.{SFits};
 ghost use lib.ListN.{drop};
 ghost use Rattle.sheet_words.specs.Number.{number};
 ghost use Rattle.sheet_form.specs.Sections.{numbers as numbersZ, section as sectionZ, settings, triple, row, i8, i16, i32};
 ghost use Rattle.sheet_form.specs.Found.{range};
-ghost use Rattle.sheet_form.specs.Rows.{Took, Took8, Took16, Bytes, Halves, restAt, taken, takeSection, row32, kind};
+ghost use Rattle.sheet_form.specs.Rows.{Took, Took16, All, restAt, taken, takeSection, row32, kind};
 use crate::blank;
 use crate::number;
 use crate::number::Number;
-use crate::rows::Row8;
 use crate::rows::Row16;
 use crate::rows::Row32;
 
@@ -32,12 +31,6 @@ pub struct Section {
 pub struct HalfSection {
     pub next: Place,
     pub row: Row16,
-}
-
-// A section of 8-bit numbers that was read.
-pub struct ByteSection {
-    pub next: Place,
-    pub row: Row8,
 }
 
 // No section: the fault k.
@@ -123,9 +116,16 @@ pub fn section32(text: &[u8], from: Place, k: u32) -> Section
     section_of(text, from, k, 0, 320, -2147483648, 2147483647)
 }
 
+// Section k with 0 to 320 numbers of 8 bits.
+pub fn section8(text: &[u8], from: Place, k: u32) -> Section
+    ensures { λ r. ⌜ Took (now (text .entry)) (takeSection (row i8) k (restAt (now (text .entry)) from)) (r .next) (r .row) ⌝ }
+{
+    section_of(text, from, k, 0, 320, -128, 127)
+}
+
 // The same words in 16 bits.
 fn halves(words: [i32; 320]) -> [i16; 320]
-    requires { ⌜ Halves words ⌝ }
+    requires { ⌜ All w16 words ⌝ }
     ensures { λ r. ⌜ r ≡ words ⌝ }
 {
     let mut out = blank::zeros16();
@@ -148,35 +148,6 @@ pub fn section16(text: &[u8], from: Place, k: u32) -> HalfSection
         row: Row16 {
             count: full.count,
             words: halves(words),
-        },
-    }
-}
-
-// The same words in 8 bits.
-fn bytes(words: [i32; 320]) -> [i8; 320]
-    requires { ⌜ Bytes words ⌝ }
-    ensures { λ r. ⌜ r ≡ words ⌝ }
-{
-    let mut out = blank::zeros8();
-    for i in 0..320 {
-        out[i] = words[i] as i8;
-    }
-    out
-}
-
-// Section k with 0 to 320 numbers of 8 bits.
-pub fn section8(text: &[u8], from: Place, k: u32) -> ByteSection
-    ensures { λ r. ⌜ Took8 (now (text .entry)) (takeSection (row i8) k (restAt (now (text .entry)) from)) (r .next) (r .row) ⌝ }
-{
-    let s = section_of(text, from, k, 0, 320, -128, 127);
-    let next = s.next;
-    let full = s.row;
-    let words = full.words;
-    ByteSection {
-        next,
-        row: Row8 {
-            count: full.count,
-            words: bytes(words),
         },
     }
 }

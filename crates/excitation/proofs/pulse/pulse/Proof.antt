@@ -1,13 +1,13 @@
 -- `excitation::pulse::pulse` meets its contract. Assumes nothing.
 use borrow.Author.Needs.{needs}
 use Prim.Native.Nat.{_^_}
-use mathlib.Core.Path.{_≡_, sym, ap, _∙_}
+use mathlib.Core.Path.{ap, _∙_}
 use lib.IntN.{ℤ}
 use Rattle.fixed.specs.Wrap.{modZ}
 use Rattle.fixed.proofs.Fit.{read, got32, fit8-32}
 use Rattle.fixed.proofs.Wraps.{wrap32-id}
 use Rattle.seeds.specs.Generator.{rand}
-use Rattle.rfc6716.specs.Excitation.{value, signed, seedAfter}
+use Rattle.rfc6716.specs.Excitation.{value}
 use Rattle.residuals.specs.Residual.{turned}
 use Rattle.choice.proofs.Rfc.{generator-is-rfc, turned-is-rfc, added-is-rfc, rand-fits}
 use Rattle.excitation.proofs.Values.{value-fits, negated-fits}

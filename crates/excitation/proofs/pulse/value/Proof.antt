@@ -1,7 +1,7 @@
 -- `excitation::pulse::value` meets its contract. Assumes nothing.
 use borrow.Author.Needs.{needs}
 use mathlib.Core.Path.{_≡_, _∙_}
-use lib.IntN.{pos, _+ℤ_, _-ℤ_, _*ℤ_}
+use lib.IntN.{pos, _*ℤ_}
 use Rattle.fixed.specs.Wrap.{wrap32}
 use Rattle.fixed.specs.Shift.{shl32}
 use Rattle.fixed.proofs.Fit.{read, got32, test32, lit32}

@@ -15,7 +15,7 @@ use Rattle.excitation.specs.declared.answer.Answer.{Answer}
 use Rattle.excitation.specs.declared.answer.Answer.the-variants.{Accepted}
 use Rattle.excitation.specs.Code.{codeOf}
 use Rattle.excitation.specs.Refused.{answerOf}
-use Rattle.excitation.specs.Reading.{Heard, heard, heardRow, heardBy, reading}
+use Rattle.excitation.specs.Reading.{heard, heardRow, heardBy, reading}
 use Rattle.excitation.proofs.Accepted.{Good, accepted-good, seed-word, accepted-tag, heard-accepted, heard-refused}
 use Rattle.excitation.proofs.reader.excitation.Statement.{statement}
 use Rattle.excitation.proofs.reader.excitation.Tie as tie

@@ -3,17 +3,16 @@ use borrow.Author.Needs.{needs}
 use Prim.Native.Nat.{_≤_, _-_, _^_}
 use native.Mathlib.Omega.{arith}
 use mathlib.Core.Path.{_≡_, refl, sym, ap, _∙_}
-use mathlib.Core.List.{List, []}
 use lib.ListN.{length, length-set, getD}
 use lib.Seq.{take-all}
-use lib.IntN.{ℤ, pos}
+use lib.IntN.{pos}
 use denote.Ref.{now}
 use mir.Syntax.{w8, w32}
 use mir.Val.{toZ}
 use Rattle.fixed.specs.Iter.{iter}
 use Rattle.fixed.specs.Wrap.{modZ}
 use Rattle.fixed.proofs.Iters.{iter-more}
-use Rattle.fixed.proofs.Fit.{read, got32, back}
+use Rattle.fixed.proofs.Fit.{read, back}
 use Rattle.rfc6716.specs.Excitation.{Row, turn, excitation}
 use Rattle.excitation.proofs.Rows.{soFar, one-more}
 use Rattle.excitation.proofs.reader.fill.Statement.{statement}

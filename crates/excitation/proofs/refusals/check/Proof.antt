@@ -1,6 +1,5 @@
 -- `excitation::refusals::check` meets its contract. Assumes nothing.
 use borrow.Author.Needs.{needs}
-use mathlib.Core.Path.{_≡_}
 use Rattle.fixed.proofs.Fit.{read}
 use Rattle.excitation.specs.Refused.{answerOf, table, seedRefused}
 use Rattle.excitation.proofs.refusals.check.Statement.{statement}

@@ -3,10 +3,13 @@ use mathlib.Core.Path.{sym, ap, _∙_}
 use mathlib.Core.List.{List}
 use Prim.Native.Nat.{ℕ}
 use denote.Ref.{now}
+use mir.Syntax.{w8}
 use Rattle.pages.specs.Page.{page, puts}
 use Rattle.sheet_form.specs.Rows.{restAt}
 use Rattle.sheet_form.specs.Sheets.{verdictOf}
+use Rattle.sheet_form.specs.declared.rows.Row32.{Row32}
 use Rattle.sheet_form.proofs.Variants.{good-verdict}
+use Rattle.sheet_form.proofs.Fitting.{padded-fit, bytes-section-fits}
 use Rattle.hear_text.proofs.Parts.{text-fault, text-good}
 use borrow.Author.Needs.{needs}
 use Rattle.hear_text.proofs.hear.hear.Statement.{statement}
@@ -34,7 +37,12 @@ enum-told : tie.Need-enum-told
 enum-told c = search needs
 
 called-requires : tie.Need-called-requires
-called-requires c κs = search needs
+called-requires c κs =
+    let q2 = c .before .before .before .before .before .before .before .before in
+    let q1 = q2 .before in
+    let a = q1 .before .before .before .before .args in
+    let t2 = q2 .section8 .ensures in
+    rw (ap (λ (r : Row32). r .words) (t2 .same-row)) (padded-fit w8 _ (bytes-section-fits 2 (restAt (now (a .input)) (q1 .triple-section .result .next))))
 
 same-length : tie.Need-same-length
 same-length c = search needs

@@ -1,6 +1,6 @@
 -- `nsq_c::heard::nsq_excitation` meets its contract. Assumes nothing.
 use Prim.Native.Nat.{ℕ}
-use mathlib.Core.Path.{_≡_, ap, _∙_}
+use mathlib.Core.Path.{ap, _∙_}
 use borrow.Author.Needs.{needs}
 use Rattle.fixed.proofs.Fit.{read}
 use Rattle.nsq_c.specs.Heard.{numbered, byNumber, heardFrom}

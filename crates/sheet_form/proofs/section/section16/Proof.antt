@@ -2,9 +2,10 @@
 use mathlib.Core.Path.{ap}
 use borrow.Author.Needs.{needs}
 use denote.Ref.{now}
+use mir.Syntax.{w16}
 use Rattle.sheet_form.specs.Rows.{restAt}
 use Rattle.sheet_form.specs.declared.rows.Row32.{Row32}
-use Rattle.sheet_form.proofs.Fitting.{section-fits, halves-fit}
+use Rattle.sheet_form.proofs.Fitting.{section-fits, padded-fit}
 use Rattle.sheet_form.proofs.section.section16.Statement.{statement}
 use Rattle.sheet_form.proofs.section.section16.Tie as tie
 
@@ -16,7 +17,7 @@ halves-requires c κs =
     let s = c .before .before in
     let a = s .before .before .args in
     let t = s .section-of .ensures in
-    rw (ap (λ (r : Row32). r .words) (t .same-row)) (halves-fit _ (section-fits (a .k) (restAt (now (a .text)) (a .from))))
+    rw (ap (λ (r : Row32). r .words) (t .same-row)) (padded-fit w16 _ (section-fits (a .k) (restAt (now (a .text)) (a .from))))
 
 returns : tie.Need-returns
 returns c =
