@@ -4,9 +4,11 @@ use mathlib.Core.List.{List, [], _∷_, _++_, append-assoc, append-nil}
 use Prim.Native.Nat.{ℕ, suc, _+_, _≤_, _<_}
 use native.Mathlib.Omega.{arith}
 use native.Mathlib.Numerals.{add-one}
-use borrow.Author.Tests.{lt-ltb, le-ltb}
+use borrow.Author.Tests.{lt-ltb, le-ltb, ltb-true}
 use lib.ListN.{length, drop, take, getD, set, length-set, take-append-drop}
 use lib.Seq.{drop-cons, drop-length, take-suc-set, drop-set-lt}
+use lib.Dec.{ltb}
+use Rattle.fixed.proofs.Iters.{either-all}
 use Rattle.pages.specs.Page.{Page, page, put, puts}
 
 pub put-in : (b n : ℕ) (out : List ℕ) → n < length out → page (n + 1) (set out n b) ≡ put b (page n out)
@@ -35,6 +37,18 @@ puts-append (b ∷ s) t p = puts-append s t (put b p)
 pub puts-one : (b : ℕ) (p : Page) → puts (b ∷ []) p ≡ put b p
 unfolding puts
 puts-one b p = refl
+
+-- ---- no more bytes are in use than the buffer has
+put-within : (b : ℕ) (p : Page) → p .used ≤ length (p .bytes) → put b p .used ≤ length (put b p .bytes)
+unfolding put
+put-within b p h =
+    either-all (λ (q : Page). q .used ≤ length (q .bytes)) (ltb (p .used) (length (p .bytes))) _ _
+    (λ e. let l = ltb-true (p .used) (length (p .bytes)) e in omega (arith, length-set (p .bytes) (p .used) b)) (λ e. h)
+
+pub puts-within : (s : List ℕ) (p : Page) → p .used ≤ length (p .bytes) → puts s p .used ≤ length (puts s p .bytes)
+unfolding puts
+puts-within [] p h = h
+puts-within (b ∷ s) p h = puts-within s (put b p) (put-within b p h)
 
 -- ---- where there is room
 take-one : (out : List ℕ) (n b : ℕ) → n < length out → take (n + 1) (set out n b) ≡ take n out ++ (b ∷ [])
