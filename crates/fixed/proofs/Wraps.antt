@@ -83,7 +83,7 @@ shl-wraps w h m (negsuc n) e f p g =
     low-bits w h 0 m ((2 ^ bits w - suc n) * m) (negℤ (pos (suc n * m))) e f p (omega (arith, neg-lin (pos (suc n * m)), ap (λ (j : ℕ). j * m) k))
 
 -- ---- up by k and down again
-scale-lin : (k : ℕ) (y : ℤ) → (P (y *ℤ pos k) ≡ P y * k) × (N (y *ℤ pos k) ≡ N y * k)
+pub scale-lin : (k : ℕ) (y : ℤ) → (P (y *ℤ pos k) ≡ P y * k) × (N (y *ℤ pos k) ≡ N y * k)
 scale-lin k (pos n) = omega arith
 scale-lin k (negsuc n) = omega (arith, neg-lin (pos (suc n * k)))
 

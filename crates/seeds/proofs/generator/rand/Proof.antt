@@ -1,25 +1,75 @@
 -- `seeds::generator::rand` meets its contract. Assumes nothing.
-use mathlib.Core.Path.{_∙_}
+use mathlib.Core.Path.{_≡_, _∙_, ap₂, sym}
+use Prim.Native.Nat.{ℕ, _%_, _^_}
+use native.Mathlib.Omega.{arith}
+use lib.IntN.{ℤ}
+use mir.Syntax.{w32}
+use mir.Val.{SFits, toZ, ofZ}
 use borrow.Author.Needs.{needs}
 use Rattle.fixed.proofs.Fit.{read, got32}
-use Rattle.fixed.proofs.Wraps.{wrap32-add-l}
-use Rattle.seeds.specs.Generator.{rand}
+use Rattle.seeds.specs.Halves.{lowHalf, highHalf, lowWord, highWord, joined, Narrow}
+use Rattle.seeds.proofs.Halves.{narrow, in-halves, mask, under}
 use Rattle.seeds.proofs.generator.rand.Statement.{statement}
 use Rattle.seeds.proofs.generator.rand.Tie as tie
 
-mul32-requires : tie.Need-mul32-requires
-mul32-requires c κs = search needs
+-- the halves that the calls gave
+got : {seed : ℤ} {l h : ℕ} → SFits w32 seed → l ≡ lowHalf (toZ w32 (ofZ w32 seed)) → h ≡ highHalf (toZ w32 (ofZ w32 seed)) → Narrow l h
+got {seed} f d e = rw (d, e, read f) (narrow seed)
 
-add32-requires : tie.Need-add32-requires
-add32-requires c κs = search needs
+low-half-requires : tie.Need-low-half-requires
+low-half-requires c κs = search needs
+
+high-half-requires : tie.Need-high-half-requires
+high-half-requires c κs = search needs
+
+mul-low : tie.Need-mul-low
+mul-low c =
+    let n = got (c .before .before .fits .seed) (c .before .low-half .ensures) (c .high-half .ensures) in
+    record { fits = omega (arith, n .low-product) }
+
+add-low : tie.Need-add-low
+unfolding lowWord
+add-low c =
+    let n = got (c .before .before .fits .seed) (c .before .low-half .ensures) (c .high-half .ensures) in
+    record { fits = omega (arith, n .low-word) }
+
+mul-high : tie.Need-mul-high
+mul-high c =
+    let n = got (c .before .before .fits .seed) (c .before .low-half .ensures) (c .high-half .ensures) in
+    record { fits = omega (arith, n .cross-low, n .cross-high) }
+
+mul-high-2 : tie.Need-mul-high-2
+mul-high-2 c =
+    let n = got (c .before .before .fits .seed) (c .before .low-half .ensures) (c .high-half .ensures) in
+    record { fits = omega (arith, n .cross-low, n .cross-high) }
+
+add-high : tie.Need-add-high
+add-high c =
+    let n = got (c .before .before .fits .seed) (c .before .low-half .ensures) (c .high-half .ensures) in
+    record { fits = omega (arith, n .cross) }
+
+add-high-2 : tie.Need-add-high-2
+unfolding highWord lowWord
+add-high-2 c =
+    let n = got (c .before .before .fits .seed) (c .before .low-half .ensures) (c .high-half .ensures) in
+    record { fits = omega (arith, n .high-word) }
+
+joined-requires : tie.Need-joined-requires
+joined-requires c κs = search (needs, under)
 
 returns : tie.Need-returns
-unfolding rand
+unfolding highWord lowWord
 returns c =
-    let m = c .before in
-    let p = rw (read (m .before .fits .seed)) at (m .mul32 .ensures) in
-    let s = rw (got32 (m .mul32 .result) (m .mul32 .ok), p) at (c .add32 .ensures) in
-    got32 (c .add32 .result) (c .add32 .ok) ∙ s ∙ wrap32-add-l _ _
+    let s = c .before .before .before in
+    let f = read (s .fits .seed) in
+    let l = rw f at (c .before .before .low-half .ensures) in
+    let h = rw f at (c .before .high-half .ensures) in
+    got32 (c .joined .result) (c .joined .ok)
+    ∙ simp (mask, l, h) at (c .joined .ensures)
+    ∙ ap₂ (λ (low high : ℕ). joined (high % 2 ^ 16) (low % 2 ^ 16)) (omega arith) (omega arith)
+    ∙ sym (in-halves (s .args .seed))
 
 pub rand-spec : {M : Type 1} → statement M
-rand-spec = tie.close (tie.spec mul32-requires add32-requires returns)
+rand-spec =
+    tie.close
+    (tie.spec low-half-requires high-half-requires mul-low add-low mul-high mul-high-2 add-high add-high-2 joined-requires returns)
