@@ -1,20 +1,17 @@
 -- `seeds::generator::rand` meets its contract. Assumes nothing.
-use mathlib.Core.Path.{_≡_, _∙_, ap₂, sym}
+use mathlib.Core.Path.{_∙_, ap₂, sym}
 use Prim.Native.Nat.{ℕ, _%_, _^_}
 use native.Mathlib.Omega.{arith}
-use lib.IntN.{ℤ}
-use mir.Syntax.{w32}
-use mir.Val.{SFits, toZ, ofZ}
 use borrow.Author.Needs.{needs}
 use Rattle.fixed.proofs.Fit.{read, got32}
-use Rattle.seeds.specs.Halves.{lowHalf, highHalf, lowWord, highWord, joined, Narrow}
+use Rattle.seeds.specs.Halves.{lowWord, highWord, joined, Narrow}
 use Rattle.seeds.proofs.Halves.{narrow, in-halves, mask, under}
 use Rattle.seeds.proofs.generator.rand.Statement.{statement}
 use Rattle.seeds.proofs.generator.rand.Tie as tie
 
--- the halves that the calls gave
-got : {seed : ℤ} {l h : ℕ} → SFits w32 seed → l ≡ lowHalf (toZ w32 (ofZ w32 seed)) → h ≡ highHalf (toZ w32 (ofZ w32 seed)) → Narrow l h
-got {seed} f d e = rw (d, e, read f) (narrow seed)
+-- the halves that the two calls gave are narrow
+halves : (c : tie.After-high-half) → Narrow (c .before .low-half .result) (c .high-half .result)
+halves c = let s = c .before .before in rw (c .before .low-half .ensures, c .high-half .ensures, read (s .fits .seed)) (narrow (s .args .seed))
 
 low-half-requires : tie.Need-low-half-requires
 low-half-requires c κs = search needs
@@ -23,36 +20,24 @@ high-half-requires : tie.Need-high-half-requires
 high-half-requires c κs = search needs
 
 mul-low : tie.Need-mul-low
-mul-low c =
-    let n = got (c .before .before .fits .seed) (c .before .low-half .ensures) (c .high-half .ensures) in
-    record { fits = omega (arith, n .low-product) }
+mul-low c = record { fits = omega (arith, halves c .low-product) }
 
 add-low : tie.Need-add-low
 unfolding lowWord
-add-low c =
-    let n = got (c .before .before .fits .seed) (c .before .low-half .ensures) (c .high-half .ensures) in
-    record { fits = omega (arith, n .low-word) }
+add-low c = record { fits = omega (arith, halves c .low-word) }
 
 mul-high : tie.Need-mul-high
-mul-high c =
-    let n = got (c .before .before .fits .seed) (c .before .low-half .ensures) (c .high-half .ensures) in
-    record { fits = omega (arith, n .cross-low, n .cross-high) }
+mul-high c = record { fits = omega (arith, halves c .cross-low, halves c .cross-high) }
 
 mul-high-2 : tie.Need-mul-high-2
-mul-high-2 c =
-    let n = got (c .before .before .fits .seed) (c .before .low-half .ensures) (c .high-half .ensures) in
-    record { fits = omega (arith, n .cross-low, n .cross-high) }
+mul-high-2 c = record { fits = omega (arith, halves c .cross-low, halves c .cross-high) }
 
 add-high : tie.Need-add-high
-add-high c =
-    let n = got (c .before .before .fits .seed) (c .before .low-half .ensures) (c .high-half .ensures) in
-    record { fits = omega (arith, n .cross) }
+add-high c = record { fits = omega (arith, halves c .cross) }
 
 add-high-2 : tie.Need-add-high-2
 unfolding highWord lowWord
-add-high-2 c =
-    let n = got (c .before .before .fits .seed) (c .before .low-half .ensures) (c .high-half .ensures) in
-    record { fits = omega (arith, n .high-word) }
+add-high-2 c = record { fits = omega (arith, halves c .high-word) }
 
 joined-requires : tie.Need-joined-requires
 joined-requires c κs = search (needs, under)
