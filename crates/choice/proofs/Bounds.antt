@@ -29,7 +29,7 @@ price-lin : (a : ℕ) (w : ℤ) → (P (pos a *ℤ w) ≡ a * P w) × (N (pos a 
 price-lin a (pos b) = omega arith
 price-lin a (negsuc b) = omega (arith, neg-lin (pos (a * suc b)))
 
-square-lin : (z : ℤ) → (P (z *ℤ z) ≡ size z * size z) × (N (z *ℤ z) ≡ 0)
+pub square-lin : (z : ℤ) → (P (z *ℤ z) ≡ size z * size z) × (N (z *ℤ z) ≡ 0)
 square-lin (pos n) = omega arith
 square-lin (negsuc n) = omega arith
 
