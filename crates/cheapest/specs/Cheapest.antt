@@ -30,7 +30,7 @@ pub record CheapestOf (r Lambda offset rd : ℤ) (c : Candidate) : Type 0 where
   pub total : c .«RD_Q10» ≡ wrap32 (rd +ℤ pulseCost r Lambda offset pulse)
   pub least : (p : ℤ) → pulseCost r Lambda offset pulse ≤ℤ pulseCost r Lambda offset p
 
--- of document 01's rule, at each clamped residual
+-- nothing is lost with this Lambda at this offset: document 01's rule, at each clamped residual
 abbrev pub NothingLost : ℤ → ℤ → Type 0
 NothingLost Lambda offset = (r : ℤ) → negsuc 31743 ≤ℤ r → r ≤ℤ pos 30720 → Cheapest r Lambda offset (ruled r Lambda offset)
 
