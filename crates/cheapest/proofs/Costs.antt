@@ -26,7 +26,7 @@ lambda-in low high {Lambda} h a b =
     let j = le-lin (h .high) in
     record { low = le-of-lin (pos low) Lambda (omega arith); high = le-of-lin Lambda (pos high) (omega arith) }
 
--- with which nothing is lost: they are in this range
+-- all those with which nothing is lost are from 0 to 32767
 pub fair-plain : {Lambda : ℤ} → FairLambda Lambda → LambdaIn 0 32767 Lambda
 fair-plain (inl h) = lambda-in 0 32767 h (omega arith) (omega arith)
 fair-plain (inr h) = lambda-in 0 32767 h (omega arith) (omega arith)
