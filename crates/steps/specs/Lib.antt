@@ -1,12 +1,14 @@
 pub mod Among
 pub mod Begin
 pub mod Call
+pub mod Carried
 pub mod Each
 pub mod Entry
 pub mod Flush
 pub mod Frame
 pub mod Leaving
 pub mod Lent
+pub mod Report
 pub mod Sample
 pub mod Scale
 pub mod Settled
