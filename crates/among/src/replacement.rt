@@ -3,6 +3,7 @@ ghost use mathlib.Core.Path.{_≡_};
 ghost use Prim.Native.Nat.{ℕ, _<_, _≤_};
 ghost use Rattle.path.specs.Data.{paths};
 ghost use Rattle.steps.specs.Among.{swapOf, fullCopy, replaced as replacedZ, movedOver};
+ghost use Rattle.steps.specs.Carried.{copiedRow};
 use path::structs::Candidate;
 use path::structs::Path;
 use path::structs::Swap;
@@ -24,15 +25,18 @@ pub fn swap_of(c: [[Candidate; 2]; 4], n: usize) -> Swap
     }
 }
 
-// The paths after the replacement, if there is one: the replaced path becomes a full copy, whatever the sample's place i in its subframe.
+// The paths after the replacement, if there is one: the replaced path becomes a full copy, whatever the sample's place i in its subframe, and the
+// pulses that it chose so far are those of the path that it becomes.
 pub fn replaced(
     mut ps: [Path; 4],
     lpc: &mut [[i32; 96]; 4],
     ring: &mut [[[i32; 40]; 5]; 4],
+    own: &mut [[i8; 320]; 4],
     s: Swap,
 ) -> [Path; 4]
     requires { ⌜ (s .to < 4) × (s .by < 4) ⌝ }
-    ensures { λ q. ⌜ ((i : ℕ) → paths q (now (lpc .exit)) (now (ring .exit)) ≡ replacedZ fullCopy s i (paths ps (now (lpc .entry)) (now (ring .entry)))) ⌝ }
+    ensures words { λ q. ⌜ ((i : ℕ) → paths q (now (lpc .exit)) (now (ring .exit)) ≡ replacedZ fullCopy s i (paths ps (now (lpc .entry)) (now (ring .entry)))) ⌝ }
+    ensures chosen { λ q. ⌜ now (own .exit) ≡ copiedRow s (now (own .entry)) ⌝ }
 {
     if s.yes {
         let to = s.to;
@@ -43,6 +47,8 @@ pub fn replaced(
         lpc[to] = words;
         let rings = ring[by];
         ring[to] = rings;
+        let row = own[by];
+        own[to] = row;
     }
     ps
 }

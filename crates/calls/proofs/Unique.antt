@@ -7,6 +7,7 @@ use Rattle.calls.proofs.call.given_of.Reads as given-of
 use Rattle.calls.proofs.begin.start_paths.Reads as start-paths
 use Rattle.calls.proofs.begin.zero_gain.Reads as zero-gain
 use Rattle.calls.proofs.begin.zero_lpcs.Reads as zero-lpcs
+use Rattle.calls.proofs.begin.zero_own.Reads as zero-own
 use Rattle.calls.proofs.begin.zero_rings.Reads as zero-rings
 use Rattle.calls.proofs.begin.zero_sltp.Reads as zero-sltp
 use Rattle.calls.proofs.begin.zero_work.Reads as zero-work
@@ -19,6 +20,9 @@ zero-gain-unique κs a r s e f p q = p ∙ sym q
 
 pub zero-lpcs-unique : (κs a r s e f : _) → zero-lpcs.Post κs a r e → zero-lpcs.Post κs a s f → r ≡ s
 zero-lpcs-unique κs a r s e f p q = p ∙ sym q
+
+pub zero-own-unique : (κs a r s e f : _) → zero-own.Post κs a r e → zero-own.Post κs a s f → r ≡ s
+zero-own-unique κs a r s e f p q = p ∙ sym q
 
 pub zero-rings-unique : (κs a r s e f : _) → zero-rings.Post κs a r e → zero-rings.Post κs a s f → r ≡ s
 zero-rings-unique κs a r s e f p q = p ∙ sym q

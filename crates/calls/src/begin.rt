@@ -4,6 +4,7 @@ ghost use Prim.Native.Nat.{_<_, _≤_};
 ghost use lib.ListN.{replicate};
 ghost use Rattle.silk.specs.State.{zeros};
 ghost use Rattle.path.specs.Data.{paths};
+ghost use Rattle.steps.specs.Carried.{noRows};
 ghost use Rattle.steps.specs.Begin.{zeroPath, zeroLpcs, zeroRings, ownFrom, startLpc, startRings, begun};
 use path::structs::Path;
 use path::structs::SHAPE_Q14;
@@ -48,6 +49,13 @@ pub fn zero_rings() -> [[[i32; 40]; 5]; 4]
     ensures { λ r. ⌜ r ≡ zeroRings ⌝ }
 {
     [[[0; 40]; 5]; 4]
+}
+
+// The pulses that the paths have chosen before the first sample: none.
+pub fn zero_own() -> [[i8; 320]; 4]
+    ensures { λ r. ⌜ r ≡ noRows ⌝ }
+{
+    [[0; 320]; 4]
 }
 
 // A path of zeros.

@@ -1,4 +1,4 @@
-// The end of a frame: the last flush, and what is left for the next one.
+// The end of a frame: the last flush, what is left for the next one, and the report.
 ghost use denote.Ref.{now};
 ghost use mathlib.Core.Path.{_≡_};
 ghost use mathlib.Core.List.{List};
@@ -9,6 +9,8 @@ ghost use Rattle.fixed.specs.Iter.{either};
 ghost use Rattle.path.specs.Data.{running};
 ghost use Rattle.steps.specs.Call.{sinceBy, rewhitesBy};
 ghost use Rattle.steps.specs.Frame.{framedOf, leftBy, doneOf, endedBy};
+ghost use Rattle.steps.specs.Report.{differ, bestRow};
+use crate::report;
 use edges::ends;
 use frame::step::Frame;
 use path::structs::Path;
@@ -21,6 +23,8 @@ use tails::tail;
 pub struct Handed {
     pub seed: i32,
     pub state: NsqState,
+    // at how many places the pulses differ from those that the final winner chose itself
+    pub report: i32,
 }
 
 // The length of k subframes of l samples.
@@ -99,11 +103,12 @@ fn left(
     }
 }
 
-// The winner's last samples handed out, and what is left.
+// The winner's last samples handed out, and what is left; `chosen` are the pulses that each path chose.
 pub fn ended(
     t: Frame,
     lpc: [[i32; 96]; 4],
     ring: [[[i32; 40]; 5]; 4],
+    chosen: &[[i8; 320]; 4],
     xq: [i16; 640],
     shp: [i32; 640],
     pulses: &mut [i8],
@@ -113,7 +118,8 @@ pub fn ended(
     g: Given,
 ) -> Handed
     requires { ⌜ (((0 < g .«nb_subfr») × (g .«nb_subfr» ≤ 4)) × (g .«subfr_length» ≤ 80)) × (((0 < g .nStates) × (g .nStates ≤ 4)) × ((g .delay ≤ g .«subfr_length») × ((g .«nb_subfr» * g .«subfr_length» ≤ length (now pulses)) × (t .work .«smpl_buf_idx» < 40)))) ⌝ }
-    ensures { λ r. ⌜ ((ltp dgain : List ℤ) → doneOf (r .seed) (r .state) (now (pulses .exit)) ≡ endedBy g last lag words (framedOf (running (t .work) lpc ring ltp dgain xq shp (now (pulses .entry))) (t .sLTP) (t .prev))) ⌝ }
+    ensures words { λ r. ⌜ ((ltp dgain : List ℤ) → doneOf (r .seed) (r .state) (now (pulses .exit)) ≡ endedBy g last lag words (framedOf (running (t .work) lpc ring ltp dgain xq shp (now (pulses .entry))) (t .sLTP) (t .prev))) ⌝ }
+    ensures report { λ r. ⌜ r .report ≡ pos (differ (now (pulses .exit)) (bestRow (t .work .ps) (g .nStates) (now (chosen .entry))) (g .«nb_subfr» * g .«subfr_length»)) ⌝ }
 {
     let work = t.work;
     let owns = work.ps;
@@ -137,9 +143,12 @@ pub fn ended(
         all,
         work.smpl_buf_idx,
     );
+    let unlike = report::differ(pulses, &chosen[w], all);
+    let count = unlike as i32;
     let state = left(g, lag, words, t.prev, own, row, history, shaping);
     Handed {
         seed: own.SeedInit,
         state: state,
+        report: count,
     }
 }

@@ -6,6 +6,8 @@ ghost use lib.ListN.{length, replicate};
 ghost use lib.IntN.{pos};
 ghost use lib.Signed.{_≤ℤ_};
 ghost use Rattle.steps.specs.Among.{fullCopy};
+ghost use Rattle.steps.specs.Carried.{chosen, carriedBy, noRows};
+ghost use Rattle.steps.specs.Report.{differ, bestRow, frameReport};
 ghost use Rattle.fixed.specs.Row.{word};
 ghost use Rattle.path.specs.Data.{paths, running};
 ghost use Rattle.refusal_rules.specs.Good.{Good};
@@ -67,14 +69,25 @@ fn rest(
     requires { ⌜ ((Sound g (now lags) × Stocked g (now x) (now pred) (now long) (now ar) (now tilt) (now harm) (now lf) (now gains) (now lags))
         × (g .«nb_subfr» * g .«subfr_length» ≤ length (now pulses)))
         × ((pos 1 ≤ℤ t .prev) × (t .work .«smpl_buf_idx» < 40)) ⌝ }
-    ensures { λ r. ⌜ doneOf (r .seed) (r .state) (now (pulses .exit))
+    ensures words { λ r. ⌜ doneOf (r .seed) (r .state) (now (pulses .exit))
         ≡ endedBy g (word (now (gains .entry)) (g .«nb_subfr» - 1)) (word (now (lags .entry)) (g .«nb_subfr» - 1)) words
         (runBy fullCopy g (now (x .entry)) (now (pred .entry)) (now (long .entry)) (now (ar .entry)) (now (tilt .entry)) (now (harm .entry)) (now (lf .entry)) (now (gains .entry)) (now (lags .entry))
         (g .«nb_subfr»)
         (framedOf (running (t .work) lpcs rings (zeros 640) (zeros 40) history shaping (now (pulses .entry))) (t .sLTP) (t .prev))) ⌝ }
+    ensures report { λ r. ⌜ r .report
+        ≡ pos (differ (now (pulses .exit))
+        (bestRow (runBy fullCopy g (now (x .entry)) (now (pred .entry)) (now (long .entry)) (now (ar .entry)) (now (tilt .entry)) (now (harm .entry)) (now (lf .entry)) (now (gains .entry)) (now (lags .entry))
+        (g .«nb_subfr»)
+        (framedOf (running (t .work) lpcs rings (zeros 640) (zeros 40) history shaping (now (pulses .entry))) (t .sLTP) (t .prev)) .run .core .ps .owns)
+        (g .nStates)
+        (carriedBy chosen fullCopy g (now (x .entry)) (now (pred .entry)) (now (long .entry)) (now (ar .entry)) (now (tilt .entry)) (now (harm .entry)) (now (lf .entry)) (now (gains .entry)) (now (lags .entry))
+        (g .«nb_subfr»)
+        (framedOf (running (t .work) lpcs rings (zeros 640) (zeros 40) history shaping (now (pulses .entry))) (t .sLTP) (t .prev)) noRows))
+        (g .«nb_subfr» * g .«subfr_length»)) ⌝ }
 {
     let mut lpc = lpcs;
     let mut ring = rings;
+    let mut own = begin::zero_own();
     let mut ltp = begin::zero_work();
     let mut dgain = begin::zero_gain();
     let mut xq = history;
@@ -83,6 +96,7 @@ fn rest(
         t,
         &mut lpc,
         &mut ring,
+        &mut own,
         &mut ltp,
         &mut dgain,
         &mut xq,
@@ -101,7 +115,7 @@ fn rest(
     );
     let last = last_of(gains, g.nb_subfr);
     let lag = last_of(lags, g.nb_subfr);
-    end::ended(u, lpc, ring, xq, shp, pulses, words, last, lag, g)
+    end::ended(u, lpc, ring, &own, xq, shp, pulses, words, last, lag, g)
 }
 
 // The frame before its first subframe: the paths begun, their rows written.
@@ -163,10 +177,14 @@ pub fn coded(
 ) -> Handed
     requires { ⌜ Good s (sizesOf (callAt s state pred long ar harm tilt lf gains lags) (now x) (now pulses)) (state .lagPrev) (state .«prev_gain_Q16»)
         (now gains) (now lags) ⌝ }
-    ensures { λ r. ⌜ doneOf (r .seed) (r .state) (now (pulses .exit))
+    ensures words { λ r. ⌜ doneOf (r .seed) (r .state) (now (pulses .exit))
         ≡ frameZ fullCopy
         (callAt s state (pred .entry) (long .entry) (ar .entry) (harm .entry) (tilt .entry) (lf .entry) (gains .entry) (lags .entry))
         (now (x .entry)) (now (pulses .entry)) ⌝ }
+    ensures report { λ r. ⌜ r .report
+        ≡ pos (frameReport fullCopy
+        (callAt s state (pred .entry) (long .entry) (ar .entry) (harm .entry) (tilt .entry) (lf .entry) (gains .entry) (lags .entry))
+        (now (x .entry)) (now (pulses .entry))) ⌝ }
 {
     let g = call::given_of(s, state.lagPrev, lags);
     let mut lpc = begin::zero_lpcs();

@@ -23,18 +23,20 @@ pub row-parts : {t u : Framed} → t ≡ u →
 row-parts e =
     ((ap (λ (t : Framed). t .run .core .«sLTP_Q15») e, ap (λ (t : Framed). t .run .core .«delayedGain_Q10») e), ap (λ (t : Framed). t .run .xq) e, ap (λ (t : Framed). t .run .«sLTP_shp_Q14») e, ap (λ (t : Framed). t .run .pulses) e)
 
--- the result and the seven rows at exit
+-- the result and the eight rows at exit
 pub step-unique : (κs a r s e f : _) → step.Post κs a r e → step.Post κs a s f →
     ((r ≡ s) × (now (e .1 .0) ≡ now (f .1 .0)) × (now (e .1 .1 .0) ≡ now (f .1 .1 .0))) ×
-    ((now (e .1 .1 .1 .0) ≡ now (f .1 .1 .1 .0)) × (now (e .1 .1 .1 .1 .0) ≡ now (f .1 .1 .1 .1 .0))) ×
-    (now (e .1 .1 .1 .1 .1 .0) ≡ now (f .1 .1 .1 .1 .1 .0)) × (now (e .1 .1 .1 .1 .1 .1 .0) ≡ now (f .1 .1 .1 .1 .1 .1 .0)) ×
-    (now (e .1 .1 .1 .1 .1 .1 .1 .0) ≡ now (f .1 .1 .1 .1 .1 .1 .1 .0))
-step-unique κs a r s e f p q = let same = p .0 ∙ sym (q .0) in let rows = row-parts same in (own-parts same, rows .0, rows .1, rows .2, rows .3)
+    ((now (e .1 .1 .1 .1 .0) ≡ now (f .1 .1 .1 .1 .0)) × (now (e .1 .1 .1 .1 .1 .0) ≡ now (f .1 .1 .1 .1 .1 .0))) ×
+    (now (e .1 .1 .1 .1 .1 .1 .0) ≡ now (f .1 .1 .1 .1 .1 .1 .0)) × (now (e .1 .1 .1 .1 .1 .1 .1 .0) ≡ now (f .1 .1 .1 .1 .1 .1 .1 .0)) ×
+    (now (e .1 .1 .1 .1 .1 .1 .1 .1 .0) ≡ now (f .1 .1 .1 .1 .1 .1 .1 .1 .0)) × (now (e .1 .1 .1 .0) ≡ now (f .1 .1 .1 .0))
+step-unique κs a r s e f p q =
+    let same = p .0 .0 ∙ sym (q .0 .0) in let rows = row-parts same in (own-parts same, rows .0, rows .1, rows .2, rows .3, p .1 ∙ sym (q .1))
 
--- the result and the seven rows at exit
+-- the result and the eight rows at exit
 pub turn-unique : (κs a r s e f : _) → turn.Post κs a r e → turn.Post κs a s f →
     ((r ≡ s) × (now (e .1 .0) ≡ now (f .1 .0)) × (now (e .1 .1 .0) ≡ now (f .1 .1 .0))) ×
-    ((now (e .1 .1 .1 .0) ≡ now (f .1 .1 .1 .0)) × (now (e .1 .1 .1 .1 .0) ≡ now (f .1 .1 .1 .1 .0))) ×
-    (now (e .1 .1 .1 .1 .1 .0) ≡ now (f .1 .1 .1 .1 .1 .0)) × (now (e .1 .1 .1 .1 .1 .1 .0) ≡ now (f .1 .1 .1 .1 .1 .1 .0)) ×
-    (now (e .1 .1 .1 .1 .1 .1 .1 .0) ≡ now (f .1 .1 .1 .1 .1 .1 .1 .0))
-turn-unique κs a r s e f p q = let same = p .0 ∙ sym (q .0) in let rows = row-parts same in (own-parts same, rows .0, rows .1, rows .2, rows .3)
+    ((now (e .1 .1 .1 .1 .0) ≡ now (f .1 .1 .1 .1 .0)) × (now (e .1 .1 .1 .1 .1 .0) ≡ now (f .1 .1 .1 .1 .1 .0))) ×
+    (now (e .1 .1 .1 .1 .1 .1 .0) ≡ now (f .1 .1 .1 .1 .1 .1 .0)) × (now (e .1 .1 .1 .1 .1 .1 .1 .0) ≡ now (f .1 .1 .1 .1 .1 .1 .1 .0)) ×
+    (now (e .1 .1 .1 .1 .1 .1 .1 .1 .0) ≡ now (f .1 .1 .1 .1 .1 .1 .1 .1 .0)) × (now (e .1 .1 .1 .0) ≡ now (f .1 .1 .1 .0))
+turn-unique κs a r s e f p q =
+    let same = p .0 .0 ∙ sym (q .0 .0) in let rows = row-parts same in (own-parts same, rows .0, rows .1, rows .2, rows .3, p .1 ∙ sym (q .1))

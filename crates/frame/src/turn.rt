@@ -7,6 +7,7 @@ ghost use lib.IntN.{pos};
 ghost use lib.Signed.{_≤ℤ_};
 ghost use Rattle.path.specs.Data.{rows};
 ghost use Rattle.steps.specs.Among.{fullCopy};
+ghost use Rattle.steps.specs.Carried.{chosen, carryStep, carryBy};
 ghost use Rattle.places.specs.Places.{Fits};
 ghost use Rattle.steps.specs.Call.{Sound, Stocked, Room};
 ghost use Rattle.steps.specs.Frame.{stepBy, priorBy, turnBy};
@@ -39,6 +40,7 @@ fn stepped(
     t: Frame,
     lpc: &mut [[i32; 96]; 4],
     ring: &mut [[[i32; 40]; 5]; 4],
+    own: &mut [[i8; 320]; 4],
     ltp: &mut [i32; 640],
     dgain: &mut [i32; 40],
     xq: &mut [i16; 640],
@@ -59,16 +61,21 @@ fn stepped(
         × ((((f .decisionDelay ≤ 2 * f .«subfr_length») × (2 * f .«subfr_length» ≤ length (now pulses))) × (t .work .«smpl_buf_idx» < 40))
         × (((from + 16 ≤ length (now pred)) × (five + 5 ≤ length (now long)))
         × ((shape + 24 ≤ length (now ar)) × ((f .base + f .«subfr_length» ≤ length (now x)) × (f .base + f .«subfr_length» ≤ length (now pulses)))))) ⌝ }
-    ensures { λ r. ⌜ (framedAt r (lpc .exit) (ring .exit) (ltp .exit) (dgain .exit) (xq .exit) (shp .exit) (pulses .exit)
+    ensures words { λ r. ⌜ (framedAt r (lpc .exit) (ring .exit) (ltp .exit) (dgain .exit) (xq .exit) (shp .exit) (pulses .exit)
         ≡ stepBy fullCopy f (rows (take 16 (drop from (now (pred .entry)))) (take 5 (drop five (now (long .entry)))) (take 24 (drop shape (now (ar .entry)))) h)
         (now (x .entry)) p
         (framedAt t (lpc .entry) (ring .entry) (ltp .entry) (dgain .entry) (xq .entry) (shp .entry) (pulses .entry)))
         × ((r .prev ≡ f .«Gain_Q16») × (r .work .«smpl_buf_idx» < 40)) ⌝ }
+    ensures chosen { λ r. ⌜ now (own .exit)
+        ≡ carryStep chosen fullCopy f (rows (take 16 (drop from (now (pred .entry)))) (take 5 (drop five (now (long .entry)))) (take 24 (drop shape (now (ar .entry)))) h)
+        (now (x .entry)) p
+        (framedAt t (lpc .entry) (ring .entry) (ltp .entry) (dgain .entry) (xq .entry) (shp .entry) (pulses .entry)) (now (own .entry)) ⌝ }
 {
     step::step(
         t,
         lpc,
         ring,
+        own,
         ltp,
         dgain,
         xq,
@@ -89,6 +96,7 @@ pub fn turn(
     t: Frame,
     lpc: &mut [[i32; 96]; 4],
     ring: &mut [[[i32; 40]; 5]; 4],
+    own: &mut [[i8; 320]; 4],
     ltp: &mut [i32; 640],
     dgain: &mut [i32; 40],
     xq: &mut [i16; 640],
@@ -109,10 +117,13 @@ pub fn turn(
     requires { ⌜ ((Sound g (now lags) × Stocked g (now x) (now pred) (now long) (now ar) (now tilt) (now harm) (now lf) (now gains) (now lags))
         × ((k < g .«nb_subfr») × (g .«nb_subfr» * g .«subfr_length» ≤ length (now pulses))))
         × ((pos 1 ≤ℤ t .prev) × (t .work .«smpl_buf_idx» < 40)) ⌝ }
-    ensures { λ r. ⌜ (framedAt r (lpc .exit) (ring .exit) (ltp .exit) (dgain .exit) (xq .exit) (shp .exit) (pulses .exit)
+    ensures words { λ r. ⌜ (framedAt r (lpc .exit) (ring .exit) (ltp .exit) (dgain .exit) (xq .exit) (shp .exit) (pulses .exit)
         ≡ turnBy fullCopy g (now (x .entry)) (now (pred .entry)) (now (long .entry)) (now (ar .entry)) (now (tilt .entry)) (now (harm .entry)) (now (lf .entry)) (now (gains .entry)) (now (lags .entry)) k
         (framedAt t (lpc .entry) (ring .entry) (ltp .entry) (dgain .entry) (xq .entry) (shp .entry) (pulses .entry)))
         × ((pos 1 ≤ℤ r .prev) × (r .work .«smpl_buf_idx» < 40)) ⌝ }
+    ensures chosen { λ r. ⌜ now (own .exit)
+        ≡ carryBy chosen fullCopy g (now (x .entry)) (now (pred .entry)) (now (long .entry)) (now (ar .entry)) (now (tilt .entry)) (now (harm .entry)) (now (lf .entry)) (now (gains .entry)) (now (lags .entry)) k
+        (framedAt t (lpc .entry) (ring .entry) (ltp .entry) (dgain .entry) (xq .entry) (shp .entry) (pulses .entry)) (now (own .entry)) ⌝ }
 {
     let f = scalars::fix_of(g, lags, lf, gains, k);
     let h = scalars::halves_of(g, tilt, harm, k);
@@ -124,6 +135,7 @@ pub fn turn(
         t,
         lpc,
         ring,
+        own,
         ltp,
         dgain,
         xq,

@@ -8,6 +8,7 @@ use mathlib.Core.List.{List, []}
 use lib.ListN.{getD}
 use lib.IntN.{ℤ}
 use lib.Signed.{ltZ}
+use Rattle.fixed.specs.Iter.{iter}
 use Rattle.fixed.proofs.Iters.{iter-same, iter-rel, either-rel, found-less}
 use Rattle.word_steps.specs.Gains.{«gain_adj_Q16»}
 use Rattle.word_steps.specs.Tail.{wordsTurn, wordsFrom}
@@ -127,9 +128,9 @@ refilled-win n f inv row t u w =
     }
 
 -- with the filtered history beside it
-record WhiteRel (n : ℕ) (W : List ℤ → List ℤ → Type 0) (t u : Whitened) : Type 0 where
-  run : LpcRel n W (t .run) (u .run)
-  row : t .sLTP ≡ u .sLTP
+pub record WhiteRel (n : ℕ) (W : List ℤ → List ℤ → Type 0) (t u : Whitened) : Type 0 where
+  pub run : LpcRel n W (t .run) (u .run)
+  pub row : t .sLTP ≡ u .sLTP
 
 whitened-by : (f : Fix) (a : List ℤ) (inv : ℤ) (t : Running) (row new : List ℤ) → rewhitenedAt f a (t .xq) row ≡ new
     → whitened f a inv t row ≡ whitenedOf (refilled f inv new t) new
@@ -178,23 +179,20 @@ coded-win r r′ g g′ f v x n0 t u w =
 first-16 : (n l : ℕ) (t u : Running) → LpcRel n (Ends l) t u → LpcRel n (Win 0 16) t u
 first-16 n l t u w = record { ps = paths-map (λ k h s t z. z .0) (w .ps); rest = w .rest }
 
-step-by : (r : Rule) (f : Fix) (v : Rows) (x : List ℤ) (again rewhite : Bool) (gain1 inv : ℤ) (t : Framed) (row : List ℤ) (prev : ℤ)
-    → t .sLTP ≡ row → t .«prev_gain_Q16» ≡ prev
-    → step r f v x again rewhite gain1 inv t ≡ coded r f v x (before again rewhite f (v .a) gain1 inv prev (t .run) row)
-unfolding step
-step-by r f v x again rewhite gain1 inv t row prev e k =
-    ap₂ (λ (y : List ℤ) (z : ℤ). coded r f v x (before again rewhite f (v .a) gain1 inv z (t .run) y)) e k
+-- what comes before the samples, of two frames in work
+pub prior-win : (again rewhite : Bool) (f : Fix) (a : List ℤ) (gain1 inv : ℤ) (t u : Framed) → FramedRel (f .nStates) (Ends (f .«subfr_length»)) t u
+    → WhiteRel (f .nStates) (Win 0 16) (before again rewhite f a gain1 inv (t .«prev_gain_Q16») (t .run) (t .sLTP))
+    (before again rewhite f a gain1 inv (u .«prev_gain_Q16») (u .run) (u .sLTP))
+prior-win again rewhite f a gain1 inv t u w =
+    rw (w .row, w .gain)
+    (before-win again rewhite f a gain1 inv (u .«prev_gain_Q16») (u .sLTP) (t .run) (u .run) (first-16 (f .nStates) (f .«subfr_length») (t .run) (u .run) (w .run)))
 
 step-win : (r r′ : Rule) → Copies r → Copies r′ → (f : Fix) (v : Rows) (x : List ℤ) (again rewhite : Bool) (gain1 inv : ℤ) → 0 < f .nStates → (t u : Framed)
     → FramedRel (f .nStates) (Ends (f .«subfr_length»)) t u
     → FramedRel (f .nStates) (Ends (f .«subfr_length»)) (step r f v x again rewhite gain1 inv t) (step r′ f v x again rewhite gain1 inv u)
+unfolding step
 step-win r r′ g g′ f v x again rewhite gain1 inv n0 t u w =
-    rw (
-      step-by r f v x again rewhite gain1 inv t (u .sLTP) (u .«prev_gain_Q16») (w .row) (w .gain),
-      step-by r′ f v x again rewhite gain1 inv u (u .sLTP) (u .«prev_gain_Q16») refl refl,
-    )
-    (coded-win r r′ g g′ f v x n0 _ _
-    (before-win again rewhite f (v .a) gain1 inv (u .«prev_gain_Q16») (u .sLTP) (t .run) (u .run) (first-16 (f .nStates) (f .«subfr_length») (t .run) (u .run) (w .run))))
+    coded-win r r′ g g′ f v x n0 _ _ (prior-win again rewhite f (v .a) gain1 inv t u w)
 
 turn-win : (r r′ : Rule) → Copies r → Copies r′ → (g : Given) (x pred ltp ar tilt harm lf gains lags : List ℤ) (k : ℕ) → 0 < g .nStates → (t u : Framed)
     → FramedRel (g .nStates) (Ends (g .«subfr_length»)) t u
@@ -203,11 +201,11 @@ unfolding turnBy fixBy
 turn-win r r′ c c′ g x pred ltp ar tilt harm lf gains lags k n0 t u w =
     step-win r r′ c c′ (fixBy g lags lf gains k) (rowsBy g pred ltp ar tilt harm k) x _ _ _ _ n0 t u w
 
-run-win : (r r′ : Rule) → Copies r → Copies r′ → (c : Call) (x out : List ℤ) → 0 < givenOf c .nStates
-    → FramedRel (givenOf c .nStates) (Ends (givenOf c .«subfr_length»)) (run r c x out) (run r′ c x out)
-unfolding run
-run-win r r′ g g′ c x out n0 =
-    iter-rel (λ k. FramedRel (givenOf c .nStates) (Ends (givenOf c .«subfr_length»))) (subframeTurn r c x) (subframeTurn r′ c x) (countOf c)
+-- n subframes of a call
+pub runs-win : (r r′ : Rule) → Copies r → Copies r′ → (c : Call) (x out : List ℤ) → 0 < givenOf c .nStates → (n : ℕ)
+    → FramedRel (givenOf c .nStates) (Ends (givenOf c .«subfr_length»)) (iter (subframeTurn r c x) n (start c out)) (iter (subframeTurn r′ c x) n (start c out))
+runs-win r r′ g g′ c x out n0 n =
+    iter-rel (λ k. FramedRel (givenOf c .nStates) (Ends (givenOf c .«subfr_length»))) (subframeTurn r c x) (subframeTurn r′ c x) n
     (λ k h t u. turn-win r r′ g g′ (givenOf c) x (c .«PredCoef_Q12») (c .«LTPCoef_Q14») (c .«AR_Q13») (c .«Tilt_Q14») (c .«HarmShapeGain_Q14») (c .«LF_shp_Q14») (c .«Gains_Q16») (c .pitchL) k n0 t u)
     (start c out) (start c out)
     (record {
@@ -219,6 +217,12 @@ run-win r r′ g g′ c x out n0 =
       row = refl;
       gain = refl;
     })
+
+-- all of them
+pub run-win : (r r′ : Rule) → Copies r → Copies r′ → (c : Call) (x out : List ℤ) → 0 < givenOf c .nStates
+    → FramedRel (givenOf c .nStates) (Ends (givenOf c .«subfr_length»)) (run r c x out) (run r′ c x out)
+unfolding run
+run-win r r′ g g′ c x out n0 = runs-win r r′ g g′ c x out n0 (countOf c)
 
 -- ---- the end
 words-win : (s t l : List ℤ) (a : ℕ) → Win a (16 + a) s t → wordsFrom s a 16 l ≡ wordsFrom t a 16 l

@@ -62,7 +62,8 @@ pair-win : (f : Fix) (a : List ℤ) (c : Common) (i r0 : ℕ) (p : Path) (n : �
 unfolding pair
 pair-win f a c i r0 p n s t ring w = ap (pairOf f (c .«n_LTP_Q14») (p .«RD_Q10»)) (terms-win f a c i r0 p n s t ring w)
 
-pairs-win : (f : Fix) (a : List ℤ) (c : Common) (i r0 : ℕ) (m : Moves) (s t : List (List ℤ)) (rings : List (List (List ℤ)))
+-- so the candidates are the same
+pub pairs-win : (f : Fix) (a : List ℤ) (c : Common) (i r0 : ℕ) (m : Moves) (s t : List (List ℤ)) (rings : List (List (List ℤ)))
     → Wins (f .nStates) (λ k. Win i (16 + i)) s t → pairs f a c i r0 m s rings ≡ pairs f a c i r0 m t rings
 unfolding pairs
 pairs-win f a c i r0 m s t rings w =

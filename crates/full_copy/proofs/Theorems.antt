@@ -1,4 +1,4 @@
--- The replaced path may as well be a full copy: for every call the outcome is the same, each word of it. Assumes nothing.
+-- The replaced path may as well be a full copy: for every call the outcome is the same, each word of it, and so is the report. Assumes nothing.
 use Prim.Native.Nat.{ℕ, _+_, _<_}
 use native.Mathlib.Omega.{arith}
 use mathlib.Core.Path.{_≡_, refl, sym, ap, _∙_}
@@ -9,15 +9,18 @@ use lib.IntN.{ℤ}
 use lib.Dec.{eqb}
 use borrow.Author.Tests.{eqb-true, eqb-false}
 use Rattle.fixed.specs.Row.{word}
+use Rattle.fixed.proofs.Iters.{either-rel}
 use Rattle.refusal_rules.specs.Code.{codeOf}
 use Rattle.steps.specs.Among.{Rule, keepsFirst, fullCopy}
 use Rattle.steps.specs.Call.{Call, givenOf}
 use Rattle.steps.specs.Entry.{taken, answered, outcomeBy, outcome}
+use Rattle.steps.specs.Report.{reportBy, report}
 use Rattle.steps.proofs.Rules.{kept-length, kept-from, full-copy-is}
 use Rattle.steps.proofs.Sound.{sound-of}
 use Rattle.steps.proofs.Outcomes.{outcome-is, accepted-good, accepted-by, refused-by}
 use Rattle.full_copy.specs.Copy.{Copies, later}
 use Rattle.full_copy.proofs.Frame.{frame-win}
+use Rattle.full_copy.proofs.Carried.{frameReport-same}
 
 -- ---- the rules that copy from word i + 1 on: the Rust's, the same one word later, and the full copy
 pub keeps-first-copies : Copies keepsFirst
@@ -59,3 +62,16 @@ full-copy c x out = same-by-rules keepsFirst fullCopy keeps-first-copies full-co
 -- the Rust's rule and the same one word later: word i doesn't count
 pub one-later : (c : Call) (x out : List ℤ) → outcome keepsFirst c x out ≡ outcome (later 1) c x out
 one-later c x out = same-by-rules keepsFirst (later 1) keeps-first-copies one-later-copies c x out
+
+-- ---- the report of a call, which compares the pulses handed out with those that the final winner chose itself
+-- by any two rules that copy from word i + 1 on
+pub report-by-rules : (r r′ : Rule) → Copies r → Copies r′ → (c : Call) (x out : List ℤ) → report r c x out ≡ report r′ c x out
+unfolding report reportBy
+report-by-rules r r′ g g′ c x out =
+    either-rel (λ (a b : ℕ). a ≡ b) (eqb (codeOf (answered c x out)) 0) _ _ _ _
+    (λ e. frameReport-same r r′ g g′ c x out (some-path c x out (eqb-true _ _ e)))
+    (λ e. refl)
+
+-- by the Rust's rule and the full copy
+pub full-copy-report : (c : Call) (x out : List ℤ) → report keepsFirst c x out ≡ report fullCopy c x out
+full-copy-report c x out = report-by-rules keepsFirst fullCopy keeps-first-copies full-copy-copies c x out

@@ -1,9 +1,11 @@
 // The call: document 01's refusals, then the frame.
 ghost use denote.Ref.{now};
 ghost use mathlib.Core.Path.{_≡_};
+ghost use lib.IntN.{pos};
 ghost use Rattle.steps.specs.Among.{keepsFirst};
 ghost use Rattle.steps.specs.Call.{callOf};
 ghost use Rattle.steps.specs.Entry.{outcomeOf, outcome};
+ghost use Rattle.steps.specs.Report.{report};
 use coding::accepted;
 use refusal_rules::answer::Answer;
 use refusal_rules::answer::Sizes;
@@ -13,7 +15,7 @@ use silk::structs::Settings;
 use steps::structs::Answered;
 
 // `silk_NSQ_del_dec_c`. Whatever it is given, the answer says whether the call was accepted, and if not, why: then the seed and
-// the state are those given and no pulse is touched.
+// the state are those given, no pulse is touched and the report is 0.
 pub fn silk_NSQ_del_dec(
     s: Settings,
     state: NsqState,
@@ -28,10 +30,14 @@ pub fn silk_NSQ_del_dec(
     gains: &[i32],
     lags: &[i32],
 ) -> Answered
-    ensures { λ r. ⌜ outcomeOf (r .answer) (r .seed) (r .state) (now (pulses .exit))
+    ensures outcome { λ r. ⌜ outcomeOf (r .answer) (r .seed) (r .state) (now (pulses .exit))
         ≡ outcome keepsFirst
         (callOf s state (now (pred .entry)) (now (long .entry)) (now (ar .entry)) (now (harm .entry)) (now (tilt .entry)) (now (lf .entry)) (now (gains .entry)) (now (lags .entry)))
         (now (x .entry)) (now (pulses .entry)) ⌝ }
+    ensures report { λ r. ⌜ r .report
+        ≡ pos (report keepsFirst
+        (callOf s state (now (pred .entry)) (now (long .entry)) (now (ar .entry)) (now (harm .entry)) (now (tilt .entry)) (now (lf .entry)) (now (gains .entry)) (now (lags .entry)))
+        (now (x .entry)) (now (pulses .entry))) ⌝ }
 {
     let z = Sizes {
         samples: x.len(),
@@ -65,12 +71,14 @@ pub fn silk_NSQ_del_dec(
                 answer: answer,
                 seed: r.seed,
                 state: next,
+                report: r.report,
             }
         }
         _ => Answered {
             answer: answer,
             seed: s.Seed,
             state: state,
+            report: 0,
         },
     }
 }

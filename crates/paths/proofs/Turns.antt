@@ -1,5 +1,5 @@
--- A turn of the samples' loop in two steps: what is written from a settled sample, and the turn as one expression.
-use mathlib.Core.Path.{_≡_, refl}
+-- A turn of the samples' loop in two steps: what is written from a settled sample, and the turn as one expression; and the rows that the paths carry.
+use mathlib.Core.Path.{_≡_, refl, ap, _∙_}
 use mathlib.Core.Bool.{Bool}
 use mathlib.Core.List.{List}
 use Prim.Native.Nat.{ℕ, _+_, _-_, _*_}
@@ -13,6 +13,8 @@ use Rattle.path.specs.declared.structs.Sampled.{Sampled}
 use Rattle.fixed.specs.Row.{word}
 use Rattle.path.specs.Data.{Running, running, Rows}
 use Rattle.steps.specs.Among.{Rule}
+use Rattle.steps.specs.Carried.{candidatesAt, finedAt, swapFrom, swapAt, chosen, copiedRow, noted, pulsesNoted, carryTurn}
+use Rattle.steps.specs.Each.{moves, pairs}
 use Rattle.steps.specs.Settled.{Settled, settledOf}
 use Rattle.steps.specs.Sample.{sample}
 use Rattle.steps.specs.Turn.{tookFrom, took, putAt, put, turn}
@@ -54,3 +56,27 @@ pub turn-is : (rule : Rule) (f : Fix) (v : Rows) (x : List ℤ) (i : ℕ) (t : R
     ≡ turn rule f v x i t
 unfolding turn put took tookFrom common
 turn-is rule f v x i t = refl
+
+-- the rows after sample i, from the frame u that it leaves, what all paths share, s, and the ring's place r
+pub carry-is : (rule : Rule) (f : Fix) (v : Rows) (x : List ℤ) (i : ℕ) (t u : Running) (s : Common) (r : ℕ) (rows : List (List ℤ))
+    → u ≡ turn rule f v x i t
+    → s ≡ commonFrom f (v .half .«HarmShapeFIRPacked_Q14») (t .«sLTP_shp_Q14») x i (predicted f (v .b) (t .core .«sLTP_Q15») i)
+    → r ≡ down (t .core .«smpl_buf_idx»)
+    → pulsesNoted (f .nStates) (f .base + i) (u .core .«smpl_buf_idx») (u .core .ps .rings)
+    (copiedRow
+    (swapFrom (pairs f (v .a) s i (t .core .«smpl_buf_idx») (moves f (v .half) (v .ar) (t .core .ps .owns)) (t .core .ps .lpcs) (t .core .ps .rings)) (t .core .ps .rings)
+    (f .nStates)
+    (delayed f r))
+    rows)
+    ≡ carryTurn chosen rule f v x i t rows
+unfolding carryTurn swapAt finedAt candidatesAt common
+carry-is rule f v x i t u s r rows after shared place =
+    let swap : Common → ℕ → List (List ℤ) = λ c j.
+    copiedRow
+    (swapFrom (pairs f (v .a) c i (t .core .«smpl_buf_idx») (moves f (v .half) (v .ar) (t .core .ps .owns)) (t .core .ps .lpcs) (t .core .ps .rings)) (t .core .ps .rings)
+    (f .nStates)
+    (delayed f j))
+    rows in
+    ap (λ (z : Running). pulsesNoted (f .nStates) (f .base + i) (z .core .«smpl_buf_idx») (z .core .ps .rings) (swap s r)) after
+    ∙ ap (λ (z : Common). pulsesNoted (f .nStates) (f .base + i) (turn rule f v x i t .core .«smpl_buf_idx») (turn rule f v x i t .core .ps .rings) (swap z r)) shared
+    ∙ ap (λ (j : ℕ). pulsesNoted (f .nStates) (f .base + i) (turn rule f v x i t .core .«smpl_buf_idx») (turn rule f v x i t .core .ps .rings) (swap (common f v x i t) j)) place

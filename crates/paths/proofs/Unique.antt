@@ -19,12 +19,13 @@ abbrev sampledOf : Settled → Sampled
 sampledOf t =
     record { ps = t .ps .owns; «Q_Q10» = t .«Q_Q10»; «Xq_Q14» = t .«Xq_Q14»; «Pred_Q15» = t .«Pred_Q15»; «Shape_Q14» = t .«Shape_Q14» }
 
--- what the sample leaves, the LPC words and the rings at exit
+-- what the sample leaves, the LPC words, the rings and the rows of pulses at exit
 pub sample-unique : (κs a r s e f : _) → sample.Post κs a r e → sample.Post κs a s f →
-    (r ≡ s) × (now (e .1 .0) ≡ now (f .1 .0)) × (now (e .1 .1 .0) ≡ now (f .1 .1 .0))
+    (r ≡ s) × (now (e .1 .0) ≡ now (f .1 .0)) × (now (e .1 .1 .0) ≡ now (f .1 .1 .0)) × (now (e .1 .1 .1 .0) ≡ now (f .1 .1 .1 .0))
 sample-unique κs a r s e f p q =
-    let same = p ∙ sym q in
-    (ap sampledOf same, ap (λ (t : Settled). t .ps .lpcs) same, ap (λ (t : Settled). t .ps .rings) same)
+    let same = p .0 ∙ sym (q .0) in
+    let rings = ap (λ (t : Settled). t .ps .rings) same in
+    (ap sampledOf same, ap (λ (t : Settled). t .ps .lpcs) same, rings, rw rings at (p .1) ∙ sym (q .1))
 
 -- two subframes in work that are equal have equal parts, all eight
 all-parts : {t u : Running} → t ≡ u →
@@ -38,16 +39,18 @@ all-parts same = (
   ap (λ (t : Running). t .pulses) same,
 )
 
--- the result and the seven rows at exit
+-- the result and the eight rows at exit
 pub turn-unique : (κs a r s e f : _) → turn.Post κs a r e → turn.Post κs a s f →
-    ((r ≡ s) × (now (e .1 .0) ≡ now (f .1 .0)) × (now (e .1 .1 .0) ≡ now (f .1 .1 .0)) × (now (e .1 .1 .1 .0) ≡ now (f .1 .1 .1 .0))) ×
-    (now (e .1 .1 .1 .1 .0) ≡ now (f .1 .1 .1 .1 .0)) × (now (e .1 .1 .1 .1 .1 .0) ≡ now (f .1 .1 .1 .1 .1 .0)) ×
-    (now (e .1 .1 .1 .1 .1 .1 .0) ≡ now (f .1 .1 .1 .1 .1 .1 .0)) × (now (e .1 .1 .1 .1 .1 .1 .1 .0) ≡ now (f .1 .1 .1 .1 .1 .1 .1 .0))
-turn-unique κs a r s e f p q = all-parts (p .0 ∙ sym (q .0))
+    (((r ≡ s) × (now (e .1 .0) ≡ now (f .1 .0)) × (now (e .1 .1 .0) ≡ now (f .1 .1 .0)) × (now (e .1 .1 .1 .1 .0) ≡ now (f .1 .1 .1 .1 .0))) ×
+    (now (e .1 .1 .1 .1 .1 .0) ≡ now (f .1 .1 .1 .1 .1 .0)) × (now (e .1 .1 .1 .1 .1 .1 .0) ≡ now (f .1 .1 .1 .1 .1 .1 .0)) ×
+    (now (e .1 .1 .1 .1 .1 .1 .1 .0) ≡ now (f .1 .1 .1 .1 .1 .1 .1 .0)) × (now (e .1 .1 .1 .1 .1 .1 .1 .1 .0) ≡ now (f .1 .1 .1 .1 .1 .1 .1 .1 .0))) ×
+    (now (e .1 .1 .1 .0) ≡ now (f .1 .1 .1 .0))
+turn-unique κs a r s e f p q = (all-parts (p .0 .0 ∙ sym (q .0 .0)), p .1 ∙ sym (q .1))
 
--- the result and the seven rows at exit
+-- the result and the eight rows at exit
 pub silk-noise-shape-quantizer-del-dec-unique : (κs a r s e f : _) → del-dec.Post κs a r e → del-dec.Post κs a s f →
-    ((r ≡ s) × (now (e .1 .0) ≡ now (f .1 .0)) × (now (e .1 .1 .0) ≡ now (f .1 .1 .0)) × (now (e .1 .1 .1 .0) ≡ now (f .1 .1 .1 .0))) ×
-    (now (e .1 .1 .1 .1 .0) ≡ now (f .1 .1 .1 .1 .0)) × (now (e .1 .1 .1 .1 .1 .0) ≡ now (f .1 .1 .1 .1 .1 .0)) ×
-    (now (e .1 .1 .1 .1 .1 .1 .0) ≡ now (f .1 .1 .1 .1 .1 .1 .0)) × (now (e .1 .1 .1 .1 .1 .1 .1 .0) ≡ now (f .1 .1 .1 .1 .1 .1 .1 .0))
-silk-noise-shape-quantizer-del-dec-unique κs a r s e f p q = all-parts (p .0 ∙ sym (q .0))
+    (((r ≡ s) × (now (e .1 .0) ≡ now (f .1 .0)) × (now (e .1 .1 .0) ≡ now (f .1 .1 .0)) × (now (e .1 .1 .1 .1 .0) ≡ now (f .1 .1 .1 .1 .0))) ×
+    (now (e .1 .1 .1 .1 .1 .0) ≡ now (f .1 .1 .1 .1 .1 .0)) × (now (e .1 .1 .1 .1 .1 .1 .0) ≡ now (f .1 .1 .1 .1 .1 .1 .0)) ×
+    (now (e .1 .1 .1 .1 .1 .1 .1 .0) ≡ now (f .1 .1 .1 .1 .1 .1 .1 .0)) × (now (e .1 .1 .1 .1 .1 .1 .1 .1 .0) ≡ now (f .1 .1 .1 .1 .1 .1 .1 .1 .0))) ×
+    (now (e .1 .1 .1 .0) ≡ now (f .1 .1 .1 .0))
+silk-noise-shape-quantizer-del-dec-unique κs a r s e f p q = (all-parts (p .0 .0 ∙ sym (q .0 .0)), p .1 ∙ sym (q .1))

@@ -3,13 +3,16 @@ ghost use mathlib.Core.Path.{_≡_};
 ghost use Prim.Native.Nat.{_+_, _<_, _≤_};
 ghost use lib.ListN.{length};
 ghost use Rattle.path.specs.Data.{paths};
+ghost use Rattle.steps.specs.Carried.{pulsesNoted};
 ghost use Rattle.steps.specs.Each.{moves as movesZ, pairs as pairsZ, takenAll};
+use noise::output;
 use path::structs::Candidate;
 use path::structs::Common;
 use path::structs::Fix;
 use path::structs::Halves;
 use path::structs::Moves;
 use path::structs::Path;
+use path::structs::Q_Q10;
 
 // All paths moved on, each with its filter's output.
 pub fn moves(ps: [Path; 4], f: Fix, h: Halves, ar: &[i16]) -> Moves
@@ -76,4 +79,15 @@ pub fn taken_all(
         ps[k] = p.taken(&mut lpc[k], &mut ring[k], first, i, r);
     }
     ps
+}
+
+// Each of the n paths notes, at place g of the frame, the pulse of the level that its ring has at place r.
+pub fn noted(own: &mut [[i8; 320]; 4], ring: &[[[i32; 40]; 5]; 4], n: usize, r: usize, g: usize)
+    requires { ⌜ (n ≤ 4) × ((r < 40) × (g < 320)) ⌝ }
+    ensures { λ _. ⌜ now (own .exit) ≡ pulsesNoted n g r (now (ring .entry)) (now (own .entry)) ⌝ }
+{
+    for k in 0..n {
+        let level = ring[k][Q_Q10][r];
+        own[k][g] = output::pulse_of(level);
+    }
 }

@@ -2,6 +2,7 @@
 ghost use mathlib.Core.Path.{_≡_};
 ghost use Prim.Native.Nat.{_<_, _≤_};
 ghost use Rattle.steps.specs.Among.{fullCopy};
+ghost use Rattle.steps.specs.Carried.{chosen, carriedIn};
 ghost use Rattle.steps.specs.Lent.{runningAt, rowsAt, Supplied};
 ghost use Rattle.steps.specs.Subframe.{backed, backs as backsZ, subframe as subframeZ};
 ghost use Rattle.places.specs.Places.{Fits};
@@ -36,6 +37,7 @@ pub fn silk_noise_shape_quantizer_del_dec(
     w: Work,
     lpc: &mut [[i32; 96]; 4],
     ring: &mut [[[i32; 40]; 5]; 4],
+    own: &mut [[i8; 320]; 4],
     ltp: &mut [i32; 640],
     dgain: &mut [i32; 40],
     xq: &mut [i16; 640],
@@ -49,10 +51,13 @@ pub fn silk_noise_shape_quantizer_del_dec(
     h: Halves,
 ) -> Work
     requires { ⌜ (Fits f × (w .«smpl_buf_idx» < 40)) × Supplied f a b ar x pulses ⌝ }
-    ensures { λ r. ⌜ (runningAt r (lpc .exit) (ring .exit) (ltp .exit) (dgain .exit) (xq .exit) (shp .exit) (pulses .exit)
+    ensures words { λ r. ⌜ (runningAt r (lpc .exit) (ring .exit) (ltp .exit) (dgain .exit) (xq .exit) (shp .exit) (pulses .exit)
         ≡ subframeZ fullCopy f (rowsAt (a .entry) (b .entry) (ar .entry) h) (now (x .entry))
         (runningAt w (lpc .entry) (ring .entry) (ltp .entry) (dgain .entry) (xq .entry) (shp .entry) (pulses .entry)))
         × (r .«smpl_buf_idx» < 40) ⌝ }
+    ensures chosen { λ r. ⌜ now (own .exit)
+        ≡ carriedIn chosen fullCopy f (rowsAt (a .entry) (b .entry) (ar .entry) h) (now (x .entry))
+        (runningAt w (lpc .entry) (ring .entry) (ltp .entry) (dgain .entry) (xq .entry) (shp .entry) (pulses .entry)) (f .«subfr_length») (now (own .entry)) ⌝ }
 {
     let mut v = w;
     let l = f.subfr_length;
@@ -61,6 +66,7 @@ pub fn silk_noise_shape_quantizer_del_dec(
             v,
             lpc,
             ring,
+            own,
             ltp,
             dgain,
             xq,

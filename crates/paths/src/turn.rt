@@ -2,6 +2,7 @@
 ghost use mathlib.Core.Path.{_≡_};
 ghost use Prim.Native.Nat.{_<_};
 ghost use Rattle.steps.specs.Among.{fullCopy};
+ghost use Rattle.steps.specs.Carried.{chosen, carryTurn};
 ghost use Rattle.places.specs.Places.{Fits};
 ghost use Rattle.steps.specs.Lent.{runningAt, rowsAt, Supplied};
 ghost use Rattle.steps.specs.Turn.{turn as turnZ};
@@ -19,6 +20,7 @@ pub fn turn(
     w: Work,
     lpc: &mut [[i32; 96]; 4],
     ring: &mut [[[i32; 40]; 5]; 4],
+    own: &mut [[i8; 320]; 4],
     ltp: &mut [i32; 640],
     dgain: &mut [i32; 40],
     xq: &mut [i16; 640],
@@ -33,17 +35,35 @@ pub fn turn(
     i: usize,
 ) -> Work
     requires { ⌜ (Fits f × (w .«smpl_buf_idx» < 40)) × ((i < f .«subfr_length») × Supplied f a b ar x pulses) ⌝ }
-    ensures { λ r. ⌜ (runningAt r (lpc .exit) (ring .exit) (ltp .exit) (dgain .exit) (xq .exit) (shp .exit) (pulses .exit)
+    ensures words { λ r. ⌜ (runningAt r (lpc .exit) (ring .exit) (ltp .exit) (dgain .exit) (xq .exit) (shp .exit) (pulses .exit)
         ≡ turnZ fullCopy f (rowsAt (a .entry) (b .entry) (ar .entry) h) (now (x .entry)) i
         (runningAt w (lpc .entry) (ring .entry) (ltp .entry) (dgain .entry) (xq .entry) (shp .entry) (pulses .entry)))
         × (r .«smpl_buf_idx» < 40) ⌝ }
+    ensures chosen { λ r. ⌜ now (own .exit)
+        ≡ carryTurn chosen fullCopy f (rowsAt (a .entry) (b .entry) (ar .entry) h) (now (x .entry)) i
+        (runningAt w (lpc .entry) (ring .entry) (ltp .entry) (dgain .entry) (xq .entry) (shp .entry) (pulses .entry)) (now (own .entry)) ⌝ }
 {
     let r0 = w.smpl_buf_idx;
     let r = ring::down(r0);
     let last = (r + f.decisionDelay) % 40;
     let s = common::common(f, h.HarmShapeFIRPacked_Q14, b, ltp, shp, x, i);
     let ps = w.ps;
-    let t = sample::sample(ps, lpc, ring, f, h, a, ar, s, i, r0, r, last);
+    let t = sample::sample(
+        ps,
+        lpc,
+        ring,
+        own,
+        f,
+        h,
+        a,
+        ar,
+        s,
+        i,
+        r0,
+        r,
+        last,
+        f.base + i,
+    );
     let g = dgain[last];
     emission::emit(
         ltp,

@@ -1,4 +1,5 @@
--- The outcome of a call, taken apart: number 0 is the frame's, and the call is good; every other number leaves all as it was. Assumes nothing.
+-- The outcome of a call and its report, taken apart: number 0 is the frame's, and the call is good; every other number leaves all as it was, and
+-- reports 0. Assumes nothing.
 use Prim.Native.Nat.{ℕ, _<_}
 use native.Mathlib.Omega.{arith}
 use mathlib.Core.Path.{_≡_, refl}
@@ -14,6 +15,7 @@ use Rattle.refusal_rules.proofs.Matched.{code-accepted}
 use Rattle.steps.specs.Call.{Call}
 use Rattle.steps.specs.Frame.{frame}
 use Rattle.steps.specs.Entry.{answered, outcomeBy, outcome, taken, untouched}
+use Rattle.steps.specs.Report.{frameReport, reportBy}
 use Rattle.steps.specs.Sizes.{sizesOf}
 
 -- by its answer
@@ -37,3 +39,13 @@ accepted-by rule c x out a e = rw e
 pub refused-by : (rule : Rule) (c : Call) (x out : List ℤ) (a : Answer) → 0 < codeOf a → outcomeBy rule c x out a ≡ untouched a c out
 unfolding outcomeBy
 refused-by rule c x out a h = rw (ne-eqb (codeOf a) 0 (λ e. omega arith))
+
+-- number 0: the report of the frame
+pub accepted-report : (rule : Rule) (c : Call) (x out : List ℤ) (a : Answer) → codeOf a ≡ 0 → reportBy rule c x out a ≡ frameReport rule c x out
+unfolding reportBy
+accepted-report rule c x out a e = rw e
+
+-- another number: 0
+pub refused-report : (rule : Rule) (c : Call) (x out : List ℤ) (a : Answer) → 0 < codeOf a → reportBy rule c x out a ≡ 0
+unfolding reportBy
+refused-report rule c x out a h = rw (ne-eqb (codeOf a) 0 (λ e. omega arith))

@@ -35,7 +35,11 @@ unfoldable pub finedAt : Fix → Rows → List ℤ → ℕ → Running → List 
 finedAt f v x i t =
     penalised (candidatesAt f v x i t) (t .core .ps .rings) (f .nStates) (leastOf (candidatesAt f v x i t) 0 (f .nStates)) (delayed f (down (t .core .«smpl_buf_idx»)))
 
--- which path is replaced by which
+-- which path is replaced by which, from the candidates c and the rings on; `last` is the place at the delay
+abbrev pub swapFrom : List (List Candidate) → List (List (List ℤ)) → ℕ → ℕ → Swap
+swapFrom c rings n last = swapOf (penalised c rings n (leastOf c 0 n) last) n
+
+-- .. at sample i
 unfoldable pub swapAt : Fix → Rows → List ℤ → ℕ → Running → Swap
 swapAt f v x i t = swapOf (finedAt f v x i t) (f .nStates)
 
@@ -64,6 +68,10 @@ noteTurn g value k rows = set rows k (set (getD rows k []) g (value k))
 -- n rows with a word at place g
 unfoldable pub noted : ℕ → ℕ → (ℕ → ℤ) → List (List ℤ) → List (List ℤ)
 noted n g value rows = iter (noteTurn g value) n rows
+
+-- .. with the pulse of the level that each path's ring has at place r
+abbrev pub pulsesNoted : ℕ → ℕ → ℕ → List (List (List ℤ)) → List (List ℤ) → List (List ℤ)
+pulsesNoted n g r rings rows = noted n g (λ k. pulseOf (ringAt rings k ringQ r)) rows
 
 -- the rows after sample i of a subframe, t the frame in work before it: first the copy, then one word more each, at the sample's place in the frame
 unfoldable pub carryTurn : Note → Rule → Fix → Rows → List ℤ → ℕ → Running → List (List ℤ) → List (List ℤ)

@@ -37,4 +37,6 @@ pub struct Answered {
     pub answer: Answer,
     pub seed: i32,
     pub state: NsqState,
+    // at how many places the pulses differ from those that the final winner chose itself; refused: 0
+    pub report: i32,
 }

@@ -1,6 +1,7 @@
 -- `among::replacement::replaced` meets its contract. Assumes nothing.
 use borrow.Author.Needs.{needs}
 use Rattle.steps.specs.Among.{fullCopy, replaced, copied}
+use Rattle.steps.specs.Carried.{copiedRow}
 use Rattle.among.proofs.replacement.replaced.Statement.{statement}
 use Rattle.among.proofs.replacement.replaced.Tie as tie
 
@@ -40,13 +41,25 @@ mul-rings-2 c = search needs
 element-set-from-rings : tie.Need-element-set-from-rings
 element-set-from-rings c = search needs
 
+mul-row : tie.Need-mul-row
+mul-row c = search needs
+
+element-copy-out-row : tie.Need-element-copy-out-row
+element-copy-out-row c = search needs
+
+mul-row-2 : tie.Need-mul-row-2
+mul-row-2 c = search needs
+
+element-set-from-row : tie.Need-element-set-from-row
+element-set-from-row c = search needs
+
 returns : tie.Need-returns
-unfolding replaced copied fullCopy
-returns c = λ i. rw (c .before .before .before .if1 .taken)
+unfolding replaced copied fullCopy copiedRow
+returns c = let yes = c .before .before .before .before .if1 .taken in (λ i. rw yes, rw yes)
 
 returns-2 : tie.Need-returns-2
-unfolding replaced
-returns-2 c = λ i. rw (c .if1 .left)
+unfolding replaced copiedRow
+returns-2 c = (λ i. rw (c .if1 .left), rw (c .if1 .left))
 
 pub replaced-spec : {M : Type 1} → statement M
 replaced-spec =
@@ -64,5 +77,9 @@ replaced-spec =
     element-copy-out-rings
     mul-rings-2
     element-set-from-rings
+    mul-row
+    element-copy-out-row
+    mul-row-2
+    element-set-from-row
     returns
     returns-2)

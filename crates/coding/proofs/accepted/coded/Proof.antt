@@ -1,7 +1,8 @@
 -- `coding::accepted::coded` meets its contract. Assumes nothing.
 use mathlib.Core.Path.{ap, _∙_}
 use mathlib.Core.List.{List}
-use lib.IntN.{ℤ}
+use lib.IntN.{ℤ, pos}
+use Prim.Native.Nat.{_*_}
 use native.Mathlib.Omega.{arith}
 use borrow.Author.Needs.{needs}
 use denote.Ref.{now}
@@ -9,7 +10,9 @@ use Rattle.fixed.specs.Iter.{iter}
 use Rattle.silk.specs.State.{zeros}
 use Rattle.steps.specs.Among.{fullCopy}
 use Rattle.path.specs.Data.{Paths}
-use Rattle.steps.specs.Call.{Call, callOf, countOf}
+use Rattle.steps.specs.Call.{Call, callOf, givenOf, lengthOf, countOf, pathsOf}
+use Rattle.steps.specs.Carried.{chosen, carriedBy, noRows}
+use Rattle.steps.specs.Report.{differ, bestRow, winnersRow, frameReport}
 use Rattle.steps.specs.Frame.{Framed, Done, start, startPaths, subframeTurn, run, ended, frame}
 use Rattle.steps.proofs.Sound.{counts}
 use Rattle.coding.proofs.Ready.{ready, state}
@@ -30,6 +33,15 @@ startWith c out p =
       sLTP = zeros 640;
       «prev_gain_Q16» = c .state .«prev_gain_Q16»;
     }
+
+-- the rows that the paths carry at its end, from there
+abbrev carriedFrom : Call → List ℤ → Framed → List (List ℤ)
+carriedFrom c x t =
+    carriedBy chosen fullCopy (givenOf c) x (c .«PredCoef_Q12») (c .«LTPCoef_Q14») (c .«AR_Q13») (c .«Tilt_Q14») (c .«HarmShapeGain_Q14») (c .«LF_shp_Q14») (c .«Gains_Q16»)
+    (c .pitchL)
+    (countOf c)
+    t
+    noRows
 
 given-of-requires : tie.Need-given-of-requires
 given-of-requires c κs = search needs
@@ -61,7 +73,7 @@ same-length : tie.Need-same-length
 same-length c = search needs
 
 returns : tie.Need-returns
-unfolding frame run start startPaths
+unfolding frame run start startPaths frameReport winnersRow
 returns c =
     let rs = c .before in
     let op = rs .before .before .before .before .before in
@@ -74,11 +86,15 @@ returns c =
     let e = rw (s .lag) at (gv .given-of .ensures) in
     let o = op .opened .ensures in
     let began = rw (rings .zero-rings .ensures, lpcs .zero-lpcs .ensures, e, counts (a .s) (a .state .lagPrev) (now (a .lags)) .seed) at (o .0 .0) in
-    let all = rw (e, o .0 .1, o .1 .0, o .1 .1) at (rs .rest .ensures) in
+    let all = rw (e, o .0 .1, o .1 .0, o .1 .1) at (rs .rest .ensures .0) in
+    let count = rw (e, o .0 .1, o .1 .0, o .1 .1) at (rs .rest .ensures .1) in
     let it = callOf (a .s) (a .state) (now (a .pred)) (now (a .long)) (now (a .ar)) (now (a .harm)) (now (a .tilt)) (now (a .lf)) (now (a .gains)) (now (a .lags)) in
     let from : Paths → Framed = λ p. startWith it (now (a .pulses)) p in
     let ends : Framed → Done = λ t. ended it (iter (subframeTurn fullCopy it (now (a .x))) (countOf it) t) in
-    all ∙ ap ends (ap from began)
+    let done = all ∙ ap ends (ap from began) in
+    let reported : List ℤ → Framed → ℤ = λ out t.
+    pos (differ out (bestRow (iter (subframeTurn fullCopy it (now (a .x))) (countOf it) t .run .core .ps .owns) (pathsOf it) (carriedFrom it (now (a .x)) t)) (countOf it * lengthOf it)) in
+    (done, count ∙ ap (reported (rs .rest .last .1 .1 .1 .1 .1 .1 .1 .0)) (ap from began) ∙ ap (λ (d : Done). reported (d .pulses) (startWith it (now (a .pulses)) (startPaths it))) done)
 
 pub coded-spec : {M : Type 1} → statement M
 coded-spec =

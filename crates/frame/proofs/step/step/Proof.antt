@@ -5,8 +5,11 @@ use borrow.Author.Needs.{needs}
 use denote.Ref.{now}
 use mir.Syntax.{w32}
 use Rattle.fixed.proofs.Fit.{back}
+use mathlib.Core.List.{List}
+use lib.IntN.{ℤ}
 use Rattle.path.specs.Data.{Running, running, rows}
 use Rattle.steps.specs.Among.{fullCopy}
+use Rattle.steps.specs.Carried.{chosen, carriedIn, carryStep}
 use Rattle.path.proofs.Told.{fix}
 use Rattle.steps.specs.Frame.{Framed, framedOf, Whitened, coded, step}
 use Rattle.frame.proofs.step.step.Statement.{statement}
@@ -20,7 +23,7 @@ before-requires c κs =
 
 silk-noise-shape-quantizer-del-dec-requires : tie.Need-silk-noise-shape-quantizer-del-dec-requires
 silk-noise-shape-quantizer-del-dec-requires c κs =
-    let pl = c .before .before .before .before .before .before .before .before .before in
+    let pl = c .before .before .before .before .before .before .before .before .before .before in
     let b = pl .before in
     let st = b .before .before .before .before .before .before .before .before .before .before .before .before in
     let p = st .pre in
@@ -30,10 +33,10 @@ same-length : tie.Need-same-length
 same-length c = search needs
 
 returns : tie.Need-returns
-unfolding step coded
+unfolding step coded carryStep
 returns c =
     let sq = c .before .before in
-    let b = sq .before .before .before .before .before .before .before .before .before .before .before in
+    let b = sq .before .before .before .before .before .before .before .before .before .before .before .before in
     let t3 = b .before in
     let st = b .before .before .before .before .before .before .before .before .before .before .before .before in
     let a = st .args in
@@ -43,12 +46,12 @@ returns c =
     let gain = fix (a .f) (c .struct-told4 .given) .gain in
     let v = rows (now (a .a)) (now (a .b)) (now (a .ar)) (a .h) in
     let row = b .before2 .result .sLTP in
-    let after : Whitened → Framed = λ w. coded fullCopy (a .f) v (now (a .x)) w in (
-      rw gain (
-          ap (λ (r : Running). framedOf r row (a .f .«Gain_Q16»)) (sq .silk-noise-shape-quantizer-del-dec .ensures .0)
-          ∙ ap after (rw (gain1, inv, prev) at (b .before2 .ensures .0 (now (a .dgain))))
-          ),
-      (gain, sq .silk-noise-shape-quantizer-del-dec .ensures .1),
+    let after : Whitened → Framed = λ w. coded fullCopy (a .f) v (now (a .x)) w in
+    let carried : Whitened → List (List ℤ) = λ w. carriedIn chosen fullCopy (a .f) v (now (a .x)) (w .run) (a .f .«subfr_length») (now (a .own)) in
+    let opened = rw (gain1, inv, prev) at (b .before2 .ensures .0 (now (a .dgain))) in
+    let sampled = sq .silk-noise-shape-quantizer-del-dec .ensures in (
+      (rw gain (ap (λ (r : Running). framedOf r row (a .f .«Gain_Q16»)) (sampled .0 .0) ∙ ap after opened), (gain, sampled .0 .1)),
+      sampled .1 ∙ ap carried opened,
     )
 
 pub step-spec : {M : Type 1} → statement M

@@ -67,7 +67,7 @@ part-step-end-3 c = search needs
 
 step-requires : tie.Need-step-requires
 step-requires c κs =
-    let st = c .before .before .before .before .before .before .before .before .before .before in
+    let st = c .before .before .before .before .before .before .before .before .before .before .before in
     let a = st .args in
     let p = st .pre in
     let rest = p .1 .1 in (
@@ -87,8 +87,8 @@ same-length c = search needs
 returns : tie.Need-returns
 returns c =
     let s = c .before .step .ensures in
-    let a = c .before .before .before .before .before .before .before .before .before .before .before .before .args in
-    (rw (part-is (a .from) 16, part-is (a .five) 5, part-is (a .shape) 24) at (s .0), s .1)
+    let a = c .before .before .before .before .before .before .before .before .before .before .before .before .before .args in
+    ((rw (part-is (a .from) 16, part-is (a .five) 5, part-is (a .shape) 24) at (s .0 .0), s .0 .1), rw (part-is (a .from) 16, part-is (a .five) 5, part-is (a .shape) 24) at (s .1))
 
 pub stepped-spec : {M : Type 1} → statement M
 stepped-spec =

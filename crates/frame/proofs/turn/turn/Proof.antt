@@ -2,6 +2,7 @@
 use native.Mathlib.Omega.{arith}
 use borrow.Author.Needs.{needs}
 use Rattle.steps.specs.Call.{rowsBy}
+use Rattle.steps.specs.Carried.{carryBy}
 use Rattle.steps.specs.Frame.{turnBy}
 use Rattle.steps.proofs.Sound.{row-few, may-of}
 use Rattle.frame.proofs.turn.turn.Statement.{statement}
@@ -34,7 +35,7 @@ mul-shape c = search needs
 
 stepped-requires : tie.Need-stepped-requires
 stepped-requires c κs =
-    let row = c .before .before .before .before .before .before .before in
+    let row = c .before .before .before .before .before .before .before .before in
     let fix = row .before .before .before in
     let st = fix .before in
     let p = st .pre in
@@ -52,16 +53,21 @@ same-length : tie.Need-same-length
 same-length c = search needs
 
 returns : tie.Need-returns
-unfolding turnBy rowsBy
+unfolding turnBy rowsBy carryBy
 returns c =
     let s = c .before .stepped .ensures in
-    let row = c .before .before .before .before .before .before .before .before .before in
+    let row = c .before .before .before .before .before .before .before .before .before .before in
     let prior = row .before in
     let halves = prior .before in
     let fix = halves .before in
     let p = fix .before .pre in
-    let m = may-of (p .0 .0 .0) (p .0 .0 .1) (p .0 .1 .0) in
-    (rw (fix .fix-of .ensures, halves .halves-of .ensures, prior .prior-of .ensures, row .row-of .ensures) at (s .0), (rw (s .1 .0, fix .fix-of .ensures) (m .gain), s .1 .1))
+    let m = may-of (p .0 .0 .0) (p .0 .0 .1) (p .0 .1 .0) in (
+      (
+        rw (fix .fix-of .ensures, halves .halves-of .ensures, prior .prior-of .ensures, row .row-of .ensures) at (s .0 .0),
+        (rw (s .0 .1 .0, fix .fix-of .ensures) (m .gain), s .0 .1 .1),
+      ),
+      rw (fix .fix-of .ensures, halves .halves-of .ensures, prior .prior-of .ensures, row .row-of .ensures) at (s .1),
+    )
 
 pub turn-spec : {M : Type 1} → statement M
 turn-spec =

@@ -2,7 +2,7 @@
 use mathlib.Core.Path.{_≡_, sym, ap, _∙_}
 use borrow.Author.Needs.{needs}
 use denote.Ref.{now}
-use lib.IntN.{ℤ}
+use lib.IntN.{ℤ, pos}
 use mir.Syntax.{w32}
 use Rattle.fixed.proofs.Fit.{back}
 use Rattle.steps.specs.Among.{keepsFirst, fullCopy}
@@ -14,8 +14,9 @@ use Rattle.steps.specs.Frame.{Done}
 use Rattle.steps.specs.Entry.{Outcome, outcomeOf, answered, taken, outcomeBy, outcome}
 use Rattle.steps.specs.Sizes.{sizesOf}
 use Rattle.coding.proofs.Ready.{state}
-use Rattle.steps.proofs.Outcomes.{accepted-by, refused-by}
-use Rattle.full_copy.proofs.Theorems.{full-copy}
+use Rattle.steps.specs.Report.{reportBy, report}
+use Rattle.steps.proofs.Outcomes.{accepted-by, refused-by, accepted-report, refused-report}
+use Rattle.full_copy.proofs.Theorems.{full-copy, full-copy-report}
 use Rattle.nsq.proofs.entry.silk_NSQ_del_dec.Statement.{statement}
 use Rattle.nsq.proofs.entry.silk_NSQ_del_dec.Tie as tie
 
@@ -39,9 +40,9 @@ coded-requires c κs =
 same-length : tie.Need-same-length
 same-length c = search needs
 
--- the frame copies whole paths; the promise is by the Rust's rule, and the two outcomes are one (`full-copy`)
+-- the frame copies whole paths; the promise is by the Rust's rule, and the two outcomes and reports are one (`full-copy`, `full-copy-report`)
 returns : tie.Need-returns
-unfolding outcome answered sizesOf
+unfolding outcome report answered sizesOf
 returns c =
     let cd = c .before .before .before in
     let keys = cd .before .before .before in
@@ -55,14 +56,22 @@ returns c =
     let zero : codeOf r ≡ 0 = sym (tag-code r) ∙ keys .match .keys1 in
     let by : Answer → Outcome = λ n. outcomeBy fullCopy it (now (a .x)) (now (a .pulses)) n in
     let seed = back w32 (cd .coded .result .seed) (c .struct-told3 .given .0 .1) in
-    rw seed
-    (ap (λ (d : Done). taken r d) (cd .coded .ensures)
-    ∙ sym (accepted-by fullCopy it (now (a .x)) (now (a .pulses)) r zero)
-    ∙ ap by e
-    ∙ sym (full-copy it (now (a .x)) (now (a .pulses))))
+    let count = back w32 (cd .coded .result .report) (c .struct-told3 .given .1 .1 .0 .1) in
+    let counted : Answer → ℤ = λ n. pos (reportBy fullCopy it (now (a .x)) (now (a .pulses)) n) in (
+      rw seed
+          (ap (λ (d : Done). taken r d) (cd .coded .ensures .0)
+          ∙ sym (accepted-by fullCopy it (now (a .x)) (now (a .pulses)) r zero)
+          ∙ ap by e
+          ∙ sym (full-copy it (now (a .x)) (now (a .pulses)))),
+      rw count
+          (cd .coded .ensures .1
+          ∙ ap pos (sym (accepted-report fullCopy it (now (a .x)) (now (a .pulses)) r zero))
+          ∙ ap counted e
+          ∙ ap pos (sym (full-copy-report it (now (a .x)) (now (a .pulses))))),
+    )
 
 returns-2 : tie.Need-returns-2
-unfolding outcome answered sizesOf
+unfolding outcome report answered sizesOf
 returns-2 c =
     let keys = c .before in
     let ck = keys .before in
@@ -76,7 +85,10 @@ returns-2 c =
     let by : Answer → Outcome = λ n. outcomeBy keepsFirst it (now (a .x)) (now (a .pulses)) n in
     let seed = back w32 (a .s .Seed) (c .struct-told4 .given .1 .1 .1 .1 .1 .1 .1 .1 .1 .0 .1) in
     let with : ℤ → Outcome = λ z. outcomeOf r z (a .state) (now (a .pulses)) in
-    ap with seed ∙ sym (refused-by keepsFirst it (now (a .x)) (now (a .pulses)) r above) ∙ ap by e
+    let counted : Answer → ℤ = λ n. pos (reportBy keepsFirst it (now (a .x)) (now (a .pulses)) n) in (
+      ap with seed ∙ sym (refused-by keepsFirst it (now (a .x)) (now (a .pulses)) r above) ∙ ap by e,
+      ap pos (sym (refused-report keepsFirst it (now (a .x)) (now (a .pulses)) r above)) ∙ ap counted e,
+    )
 
 pub silk-NSQ-del-dec-spec : {M : Type 1} → statement M
 silk-NSQ-del-dec-spec =

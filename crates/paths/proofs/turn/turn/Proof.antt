@@ -1,10 +1,12 @@
 -- `paths::turn::turn` meets its contract. Assumes nothing.
-use mathlib.Core.Path.{_≡_, ap, _∙_}
+use mathlib.Core.Path.{_≡_, refl, ap, _∙_}
 use Prim.Native.Nat.{ℕ, _+_, _-_}
 use native.Mathlib.Omega.{arith}
 use borrow.Author.Needs.{needs}
 use denote.Ref.{now}
+use lib.ListN.{set}
 use mir.Syntax.{w32}
+use Rattle.fixed.specs.Shift.{shr32}
 use Rattle.fixed.proofs.Fit.{back, got32}
 use Rattle.path.specs.declared.structs.Common.{Common}
 use Rattle.fixed.specs.Row.{word}
@@ -16,7 +18,7 @@ use Rattle.steps.specs.Turn.{putAt}
 use Rattle.steps.specs.Leaving.{leaves}
 use Rattle.steps.specs.Shared.{commonFrom, predicted}
 use Rattle.places.specs.Places.{delayed}
-use Rattle.paths.proofs.Turns.{written, turnWith, turn-is}
+use Rattle.paths.proofs.Turns.{written, turnWith, turn-is, carry-is}
 use Rattle.paths.proofs.turn.turn.Statement.{statement}
 use Rattle.paths.proofs.turn.turn.Tie as tie
 
@@ -29,8 +31,18 @@ add-last c = search needs
 common-requires : tie.Need-common-requires
 common-requires c κs = search needs
 
+add-sample : tie.Need-add-sample
+add-sample c =
+    let st = c .before .before .before .before .before .before .before .before .before .before .before in
+    let fits = st .pre .0 .0 .frame in
+    record { fits = omega (arith, st .pre) }
+
 sample-requires : tie.Need-sample-requires
-sample-requires c κs = search needs
+sample-requires c κs =
+    let st = c .before .before .before .before .before .before .before .before .before .before .before in
+    let fits = st .pre .0 .0 in
+    let dn = c .before .before .before .before .before .before .before .before .before .before .down in
+    omega (arith, st .pre, fits .some, fits .few, fits .order, fits .shaping, fits .shaping24, fits .short, fits .frame, dn .ensures .1)
 
 mul-g : tie.Need-mul-g
 mul-g c = search needs
@@ -41,7 +53,7 @@ element-copy-out-g c = search needs
 emit-requires : tie.Need-emit-requires
 emit-requires c κs =
     let g = c .before .before .before .before .before .before .before .before in
-    let st = g .before .before .before .before .before .before .before .before .before .before .before in
+    let st = g .before .before .before .before .before .before .before .before .before .before .before .before .before in
     (st .pre .0 .0, omega (arith, st .pre))
 
 shr32-requires : tie.Need-shr32-requires
@@ -52,7 +64,7 @@ mul-g10 c =
     let e = c .before .before .before in
     let g = e .before .before .before .before .before .before .before .before .before in
     let m = g .before in
-    let k = m .before .before .before .before in
+    let k = m .before .before .before .before .before .before in
     let n = k .before .before .before .before .before in
     omega (arith, n .down .ensures .1)
 
@@ -61,7 +73,7 @@ element-set-from-g10 c =
     let e = c .before .before .before in
     let g = e .before .before .before .before .before .before .before .before .before in
     let m = g .before in
-    let k = m .before .before .before .before in
+    let k = m .before .before .before .before .before .before in
     let n = k .before .before .before .before .before in
     omega (arith, n .down .ensures .1)
 
@@ -73,7 +85,7 @@ returns c =
     let e = c .before .before .before .before in
     let g = e .before .before .before .before .before .before .before .before .before in
     let m = g .before in
-    let k = m .before .before .before .before in
+    let k = m .before .before .before .before .before .before in
     let n = k .before .before .before .before .before in
     let a = n .before .args in
     let told = e .before .before .before .before in
@@ -88,15 +100,18 @@ returns c =
     let u = rw (s .q, s .xq, s .pred, s .shape, back w32 w (g .g .given)) at (e .emit .ensures) in
     let q = got32 (c .before .shr32 .result) (c .before .shr32 .ok) ∙ rw (f .gain) at (c .before .shr32 .ensures) in
     let shared = commonFrom (a .f) (a .h .«HarmShapeFIRPacked_Q14») (now (a .shp)) (now (a .x)) (a .i) (predicted (a .f) (now (a .b)) (now (a .ltp)) (a .i)) in
-    let o : k .common .result ≡ shared = rw (h .harm) at (k .common .ensures) in (
-      written (a .f) (a .i) (leaves (a .f) (a .i)) w (a .f .base + a .i - a .f .«decisionDelay») r (m .sample .result) start _ _ _ _ _ _ _
-          (record { work = u .0; gain = rw q; history = u .1 .0; shaping = u .1 .1 .0; pulse = u .1 .1 .1 })
-          ∙ ap after (m .sample .ensures)
-          ∙ ap (λ (z : Common). turnWith fullCopy (a .f) v (a .i) start r z) o
-          ∙ ap (λ (j : ℕ). turnWith fullCopy (a .f) v (a .i) start j shared) (n .down .ensures .0)
-          ∙ turn-is fullCopy (a .f) v (now (a .x)) (a .i) start,
-      n .down .ensures .1,
-    )
+    let o : k .common .result ≡ shared = rw (h .harm) at (k .common .ensures) in
+    let g10 = set (now (a .dgain)) r (shr32 (a .f .«Gain_Q16») 6) in
+    let whole =
+    written (a .f) (a .i) (leaves (a .f) (a .i)) w (a .f .base + a .i - a .f .«decisionDelay») r (m .sample .result) start
+    (m .sample .last .1 .0) (m .sample .last .1 .1 .0) (e .emit .last .0) g10 (e .emit .last .1 .0) (e .emit .last .1 .1 .0) (e .emit .last .1 .1 .1 .0)
+    (record { work = u .0; gain = refl; history = u .1 .0; shaping = u .1 .1 .0; pulse = u .1 .1 .1 })
+    ∙ ap after (m .sample .ensures .0)
+    ∙ ap (λ (z : Common). turnWith fullCopy (a .f) v (a .i) start r z) o
+    ∙ ap (λ (j : ℕ). turnWith fullCopy (a .f) v (a .i) start j shared) (n .down .ensures .0)
+    ∙ turn-is fullCopy (a .f) v (now (a .x)) (a .i) start in
+    let carried = carry-is fullCopy (a .f) v (now (a .x)) (a .i) start _ (k .common .result) r (now (a .own)) whole o (n .down .ensures .0) in
+    rw q ((whole, n .down .ensures .1), m .sample .ensures .1 ∙ carried)
 
 pub turn-spec : {M : Type 1} → statement M
 turn-spec =
@@ -105,6 +120,7 @@ turn-spec =
     down-requires
     add-last
     common-requires
+    add-sample
     sample-requires
     mul-g
     element-copy-out-g
