@@ -8,7 +8,7 @@ use lib.ListN.{length, take, drop, set}
 use lib.Seq.{take-at, drop-at, getD-drop}
 use lib.IntN.{ℤ, pos}
 use lib.Dec.{eqb}
-use borrow.Author.Tests.{ne-eqb}
+use borrow.Author.Tests.{eq-eqb, ne-eqb}
 use Rattle.fixed.specs.Iter.{either}
 use Rattle.silk.specs.declared.structs.NsqState.{NsqState}
 use Rattle.steps.specs.Among.{keepsFirst}
@@ -22,6 +22,7 @@ use Rattle.steps.proofs.Outcomes.{refused-by}
 use Rattle.settings_row.specs.Named.{settingsOf}
 use Rattle.plain_rows.specs.Layout.{stateOf, scalarsOf, wordsOf}
 use Rattle.nsq_c.specs.Rows.{called}
+use Rattle.nsq_c.specs.Report.{shortNumber, reportIn, Reported, reportedOf, withReport, reported}
 use Rattle.plain_laid.specs.Laid.{Left, leftOf, laid}
 use Rattle.plain_answers.specs.Stateless.{stateless}
 use Rattle.plain_fresh.specs.Fresh.{stateFits}
@@ -95,3 +96,27 @@ refused-kept settings samples words c x out = way (eqb (length settings) 12) (st
     way false u h = refl
     way true false h = refl
     way true true h = laid-kept settings samples words out (outcome keepsFirst c x out) (outcome-pulses c x out) h ∙ ap (λ (n : ℕ). leftOf n settings samples words out) (sym (laid-number settings samples words (outcome keepsFirst c x out)))
+
+-- .. and so is the row of the report
+pub report-refused-kept : (settings samples words : List ℤ) (c : Call) (x out row : List ℤ) → 0 < reported settings samples words c x out row .left .number
+    → reported settings samples words c x out row ≡ reportedOf (leftOf (reported settings samples words c x out row .left .number) settings samples words out) row
+unfolding reported withReport
+report-refused-kept settings samples words c x out row = way (eqb (length row) 1)
+  where
+    one : Reported
+    one = withReport (reportIn settings samples words c x out) row (called settings samples words c x out)
+
+    other : Reported
+    other = reportedOf (leftOf (shortNumber settings) settings samples words out) row
+
+    way : (t : Bool) → 0 < either t one other .left .number → either t one other ≡ reportedOf (leftOf (either t one other .left .number) settings samples words out) row
+    way false h = refl
+    way true h =
+        rw (ne-eqb (called settings samples words c x out .number) 0 (λ z. omega arith))
+        (ap (λ (l : Left). reportedOf l row) (refused-kept settings samples words c x out h))
+
+-- where the row has one word, the call is the one without it
+pub report-called : (settings samples words : List ℤ) (c : Call) (x out row : List ℤ) → length row ≡ 1
+    → reported settings samples words c x out row .left ≡ called settings samples words c x out
+unfolding reported withReport
+report-called settings samples words c x out row e = rw (eq-eqb (length row) 1 e)

@@ -3,11 +3,7 @@ ghost use denote.Ref.{now};
 ghost use mathlib.Core.Path.{_≡_};
 ghost use Rattle.nsq_c.specs.Rows.{called, callIn};
 ghost use Rattle.plain_laid.specs.Laid.{leftOf};
-use nsq::entry;
-use plain_answers::answers;
-use plain_laid::laying;
-use plain_rows::layout;
-use settings_row::named;
+use crate::calling;
 
 // `silk_NSQ_del_dec_c` on plain rows. Returns document 01's number. Accepted, which is 0: the pulses are written, the two rows
 // of the state hold the next one, and place 9 of the settings holds the seed that is handed out. Refused: no row is touched.
@@ -33,20 +29,10 @@ pub extern "C" fn nsq_del_dec(
         (now (ar .entry)) (now (harm .entry)) (now (tilt .entry)) (now (lf .entry)) (now (gains .entry)) (now (lags .entry)))
         (now (x .entry)) (now (pulses .entry)) ⌝ }
 {
-    if settings.len() != 12 {
-        return 5;
-    }
-    let s = named::settings_of(settings);
-    if samples.len() != 640 {
-        return answers::stateless_number(s, gains, lags);
-    }
-    if words.len() != 767 {
-        return answers::stateless_number(s, gains, lags);
-    }
-    let state = layout::state_of(samples, words);
-    let a = entry::silk_NSQ_del_dec(
-        s,
-        state,
+    let r = calling::called(
+        settings,
+        samples,
+        words,
         x,
         pulses,
         pred,
@@ -58,5 +44,5 @@ pub extern "C" fn nsq_del_dec(
         gains,
         lags,
     );
-    laying::lay(a, settings, samples, words)
+    r.number
 }
