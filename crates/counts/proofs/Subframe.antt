@@ -129,7 +129,7 @@ pub emit-out : (first : Bool) (base d i : ℕ) {s t : List ℤ} (v : ℤ) → (f
 emit-out first base d i {s} {t} v k r =
     simp zero-add at (emit-same first 0 base d i {s = s} {t = t} v k (simp zero-add r))
 
-emit-long : (now : Bool) (s : List ℤ) (p : ℕ) (v : ℤ) → length (emit now s p v) ≡ length s
+pub emit-long : (now : Bool) (s : List ℤ) (p : ℕ) (v : ℤ) → length (emit now s p v) ≡ length s
 emit-long true s p v = length-set s p v
 emit-long false s p v = refl
 
@@ -162,6 +162,11 @@ put-same f k i s {m} t u r =
 pub turn-is : (rule : Rule) (f : Fix) (v : Rows) (x : List ℤ) (i : ℕ) (t : Running) → turn rule f v x i t ≡ put f i (took rule f v x i t) t
 unfolding turn
 turn-is rule f v x i t = refl
+
+-- what a sample writes
+pub turn-wrote : (rule : Rule) (f : Fix) (v : Rows) (x : List ℤ) (i : ℕ) (t : Running) → Wrote f i (took rule f v x i t) t (turn rule f v x i t)
+unfolding turn
+turn-wrote rule f v x i t = wrote f i (took rule f v x i t) t
 
 turn-same : (rule : Rule) (f : Fix) (v w : Rows) → RowsSame f v w → Behind f → (x : List ℤ) (i : ℕ) {m : ℕ} (t u : Running)
     → Same m (4 * f .«subfr_length») (bound (f .first) (f .base) (f .decisionDelay) i) t u

@@ -57,6 +57,15 @@ pub either-rel : {A B : Type 0} (R : A → B → Type 0) (c : Bool) (x y : A) (u
 either-rel R true x y u v h k = h refl
 either-rel R false x y u v h k = k refl
 
+-- what follows from each outcome of a test
+pub cases : {A : Type 0} (b : Bool) → (b ≡ true → A) → (b ≡ false → A) → A
+cases true f g = f refl
+cases false f g = g refl
+
+-- a test doesn't come out both ways
+pub not-both : {A : Type 0} (b : Bool) → b ≡ true → b ≡ false → A
+not-both b e f = let z : true ≡ false = sym e ∙ f in let w : _≡_ {A = ℕ} 0 1 = cc in absurd (omega arith)
+
 -- ---- a search from the first to the last, that moves on where a test says so: what it finds is one of the n
 pub found-less : (test : ℕ → ℕ → Bool) (n : ℕ) → 0 < n → iter (λ k w. either (test k w) k w) n 0 < n
 found-less test n h =

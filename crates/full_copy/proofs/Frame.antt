@@ -7,9 +7,8 @@ use mathlib.Core.Bool.{Bool}
 use mathlib.Core.List.{List, []}
 use lib.ListN.{getD}
 use lib.IntN.{ℤ}
-use lib.Signed.{ltZ}
 use Rattle.fixed.specs.Iter.{iter}
-use Rattle.fixed.proofs.Iters.{iter-same, iter-rel, either-rel, found-less}
+use Rattle.fixed.proofs.Iters.{iter-same, iter-rel, either-rel}
 use Rattle.word_steps.specs.Gains.{«gain_adj_Q16»}
 use Rattle.word_steps.specs.Tail.{wordsTurn, wordsFrom}
 use Rattle.limits.specs.Count.{sameZ}
@@ -23,6 +22,7 @@ use Rattle.steps.specs.Flush.{bestOf, fitMiddle, fitLast, Outs, flushed, others
 use Rattle.steps.specs.declared.structs.Given.{Given}
 use Rattle.steps.specs.Call.{Call, givenOf, countOf, fixBy, rowsBy}
 use Rattle.steps.specs.Frame.{Framed, start, outsOf, flushedRun, middleBy, rewhitenedAt, refilled, Whitened, whitenedOf, whitened, regained, flushedFirst, whitenedFirst, before, coded, step, turnBy, subframeTurn, run, leftBy, handedOut, endedBy, frame}
+use Rattle.steps.proofs.Best.{best-in}
 use Rattle.full_copy.specs.Copy.{Copies}
 use Rattle.full_copy.proofs.Windows.{set-both, len-both, Win, win-refl, win-set}
 use Rattle.full_copy.proofs.Sample.{PathsRel, paths-map}
@@ -238,10 +238,6 @@ handed-win : (g : Given) (lag : ℤ) (words : List ℤ) (gain : ℤ) (p : Path) 
     → handedOut g lag words gain p s o ≡ handedOut g lag words gain p t o
 handed-win g lag words gain p s t o w = rw (left-win g lag words gain p s t (o .xq) (o .«sLTP_shp_Q14») w) refl
 
-best-less : (o : List Path) (n : ℕ) → 0 < n → bestOf o n < n
-unfolding bestOf
-best-less o n h = found-less (λ k w. ltZ (getD o k noPath .«RD_Q10») (getD o w noPath .«RD_Q10»)) n h
-
 ended-by : (g : Given) (last lag : ℤ) (words : List ℤ) (t : Framed) (owns : List Path) (w : ℕ) (gain : ℤ) (o : Outs)
     → t .run .core .ps .owns ≡ owns → bestOf owns (g .nStates) ≡ w → t .«prev_gain_Q16» ≡ gain
     → flushedRun (g .«subfr_length») (g .delay) (fitLast last) (g .«nb_subfr» * g .«subfr_length») w (t .run) ≡ o
@@ -264,7 +260,7 @@ ended-win g last lag words t u n0 r =
     let o = flushedRun (g .«subfr_length») (g .delay) (fitLast last) (g .«nb_subfr» * g .«subfr_length») w (u .run) in
     ended-by g last lag words t owns w (u .«prev_gain_Q16») o (r .run .ps .owns) refl (r .gain)
     (flush-win (g .nStates) (g .«subfr_length») (g .delay) (fitLast last) (g .«nb_subfr» * g .«subfr_length») w (t .run) (u .run) (r .run))
-    ∙ handed-win g lag words (u .«prev_gain_Q16») (getD owns w noPath) _ _ o (r .run .ps .lpcs .at w (best-less owns (g .nStates) n0) .1)
+    ∙ handed-win g lag words (u .«prev_gain_Q16») (getD owns w noPath) _ _ o (r .run .ps .lpcs .at w (best-in owns (g .nStates) n0) .1)
     ∙ sym (ended-by g last lag words u owns w (u .«prev_gain_Q16») o refl refl refl refl)
 
 -- ---- the whole frame

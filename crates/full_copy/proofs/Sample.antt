@@ -6,10 +6,9 @@ use mathlib.Core.Path.{_≡_, refl, sym, ap, _∙_}
 use mathlib.Core.List.{List, []}
 use lib.ListN.{getD, replicate}
 use lib.IntN.{ℤ, pos}
-use lib.Signed.{ltZ}
 use lib.Dec.{eqb}
 use Rattle.fixed.specs.Row.{word}
-use Rattle.fixed.proofs.Iters.{iter-same, iter-rel, either-all, either-rel, found-less}
+use Rattle.fixed.proofs.Iters.{iter-same, iter-rel, either-all, either-rel}
 use Rattle.shaping.specs.Taps.{tap, tapCount, shortPrediction}
 use Rattle.path.specs.declared.structs.Path.{Path}
 use Rattle.path.specs.declared.structs.Candidate.{Candidate}
@@ -22,6 +21,7 @@ use Rattle.path.specs.Data.{noPath, noCandidate, Paths, paths, candidateAt}
 use Rattle.path.specs.Path.{termsOf, pairOf, pair}
 use Rattle.path.specs.Taken.{taken}
 use Rattle.winner.specs.Winner.{leastOf}
+use Rattle.winner.proofs.Ties.{least-in}
 use Rattle.penalty.specs.Penalty.{penalised}
 use Rattle.steps.specs.Among.{Rule, swapOf, copied, replaced, movedOver}
 use Rattle.steps.specs.Each.{moves, pairTurn, pairs, takeTurn, takenAll}
@@ -93,8 +93,8 @@ copied-win r r′ u u′ n to by i c p q bn w =
 
 -- which path is copied is one of the n
 by-less : (d : List (List Candidate)) (n : ℕ) → 0 < n → swapOf d n .by < n
-unfolding swapOf leastOf
-by-less d n h = found-less (λ k w. ltZ (candidateAt d k 1 .«RD_Q10») (candidateAt d w 1 .«RD_Q10»)) n h
+unfolding swapOf
+by-less d n h = least-in d 1 n h
 
 replaced-win : (r r′ : Rule) → Copies r → Copies r′ → (n i c : ℕ) (s : Swap) → s .by < n → (p q : Paths) → PathsRel n (λ k. Win i c) p q
     → PathsRel n (λ k. Win (suc i) c) (replaced r s i p) (replaced r′ s i q)

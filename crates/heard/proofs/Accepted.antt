@@ -1,8 +1,9 @@
--- What an accepted call has, with any number of paths: its kinds are in range, its seed is small, it hands out one pulse for each sample, and
--- these are at most 320. Assumes nothing.
-use Prim.Native.Nat.{ℕ, _*_, _≤_}
+-- What an accepted call has, with any number of paths: its kinds are in range, its seed is small, it hands out one pulse for each sample, these are at
+-- most 320, and a flush in the middle has its place. Assumes nothing.
+use Prim.Native.Nat.{ℕ, _*_, _<_, _≤_}
 use native.Mathlib.Omega.{arith}
 use mathlib.Core.Path.{_≡_, refl, ap, _∙_}
+use mathlib.Core.Bool.{true}
 use mathlib.Core.List.{List}
 use lib.ListN.{length}
 use lib.IntN.{ℤ}
@@ -11,15 +12,17 @@ use mir.Val.{SFits}
 use Rattle.limits.specs.Count.{natZ}
 use Rattle.refusal_rules.specs.Code.{codeOf}
 use Rattle.refusal_rules.specs.Good.{Among}
+use Rattle.refusal_rules.proofs.Room.{subframe-within}
 use Rattle.steps.specs.Among.{Rule}
-use Rattle.steps.specs.Call.{Call, givenBy, lengthOf, countOf, delayOf, fixBy, fixOf}
+use Rattle.steps.specs.Call.{Call, givenBy, givenOf, lengthOf, countOf, delayOf, second, fixBy, fixOf}
 use Rattle.steps.specs.Entry.{Outcome, answered, outcome}
 use Rattle.steps.proofs.Outcomes.{outcome-is, accepted-good, accepted-by}
-use Rattle.steps.proofs.Sound.{delay-13, subframes-small}
+use Rattle.steps.proofs.Sound.{delay-13, second-is, subframes-small}
 use Rattle.counts.proofs.Accepted.{ready}
 use Rattle.counts.proofs.Filled.{agree-unread}
 use Rattle.counts.proofs.Whole.{frame-same}
 use Rattle.heard.proofs.Candidates.{Tabled}
+use Rattle.heard.proofs.Between.{Midway}
 
 module _ (c : Call) (x out : List ℤ) (e : codeOf (answered c x out) ≡ 0) where
   -- the signal type is 0, 1 or 2, and the offset type 0 or 1
@@ -47,6 +50,17 @@ module _ (c : Call) (x out : List ℤ) (e : codeOf (answered c x out) ≡ 0) whe
       ap (λ (o : Outcome). length (o .pulses)) (outcome-is rule c x out ∙ accepted-by rule c x out (answered c x out) e)
       ∙ frame-same c c x x out out same r rule .long
       ∙ r .pulses
+
+  -- a flush in the middle comes when two subframes are done
+  pub midway : (k : ℕ) → k < countOf c → Midway (second c k) (fixOf c k) (countOf c * lengthOf c) (k * lengthOf c)
+  unfolding fixBy
+  midway k h =
+      let two : second c k ≡ true → k * lengthOf c ≡ 2 * lengthOf c = λ z. ap (λ (y : ℕ). y * lengthOf c) (second-is (givenOf c) k z .0) in
+      record {
+        few = ready c x out e .sound .delay40;
+        two = two;
+        within = λ z. omega (arith, subframe-within (lengthOf c) h, two z);
+      }
 
   -- the offset of each subframe is one of the table
   pub tabled : SFits w32 (c .settings .«Lambda_Q10») → (k : ℕ) → Tabled (fixOf c k)

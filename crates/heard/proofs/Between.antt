@@ -18,7 +18,7 @@ use Rattle.products.specs.Product.{smulww}
 use Rattle.word_steps.specs.Gains.{«gain_adj_Q16»}
 use Rattle.path.specs.declared.structs.Path.{Path}
 use Rattle.path.specs.declared.structs.Fix.{Fix}
-use Rattle.path.specs.Data.{noPath, Paths, Running, ringQ, ringPred}
+use Rattle.path.specs.Data.{noPath, Paths, Running, ringRandState, ringQ, ringPred}
 use Rattle.path.specs.Taken.{Whole, pathAt}
 use Rattle.path.specs.Scaled.{scaleTurn, scaledWords, scaledOwn, scaledPath}
 use Rattle.steps.specs.Subframe.{moveBack}
@@ -80,21 +80,24 @@ unfolding moveBack
 back-kept f t s = kept-same s (keeps-paths (s .there) refl refl refl) refl
 
 -- ---- the change of gain: seeds stay, and so does the ring of levels
-scaled-own : (adj : ℤ) (p : Path) → (scaledOwn adj p .«Seed» ≡ p .«Seed») × (scaledOwn adj p .«SeedInit» ≡ p .«SeedInit»)
+pub scaled-own : (adj : ℤ) (p : Path)
+    → (scaledOwn adj p .«Seed» ≡ p .«Seed») × ((scaledOwn adj p .«SeedInit» ≡ p .«SeedInit») × (scaledOwn adj p .«RD_Q10» ≡ p .«RD_Q10»))
 unfolding scaledOwn
-scaled-own adj p = (refl, refl)
+scaled-own adj p = (refl, (refl, refl))
 
 scaled-long : (adj : ℤ) (a m : ℕ) (row : List ℤ) → length (scaledWords adj a m row) ≡ length row
 unfolding scaledWords
 scaled-long adj a m row =
     iter-keeps (λ j (l : List ℤ). length l ≡ length row) (scaleTurn adj a) m (λ j h l e. length-set l (a + j) (smulww adj (word l (a + j))) ∙ e) row refl
 
-record Rescaled (old new : List (List ℤ)) : Type 0 where
-  five : length new ≡ 5
-  level : getD new ringQ [] ≡ getD old ringQ []
-  pred : length (getD new ringPred []) ≡ length (getD old ringPred [])
+-- .. and the ring of words RandState
+pub record Rescaled (old new : List (List ℤ)) : Type 0 where
+  pub five : length new ≡ 5
+  pub level : getD new ringQ [] ≡ getD old ringQ []
+  pub mark : getD new ringRandState [] ≡ getD old ringRandState []
+  pub pred : length (getD new ringPred []) ≡ length (getD old ringPred [])
 
-path-rescaled : (adj : ℤ) (o : Path) (lpc : List ℤ) (ring : List (List ℤ)) → length ring ≡ 5
+pub path-rescaled : (adj : ℤ) (o : Path) (lpc : List ℤ) (ring : List (List ℤ)) → length ring ≡ 5
     → Rescaled ring (scaledPath adj (record { own = o; lpc = lpc; ring = ring }) .ring)
 unfolding scaledPath
 path-rescaled adj o lpc [] h = absurd (omega (arith, h))
@@ -102,7 +105,7 @@ path-rescaled adj o lpc (a ∷ []) h = absurd (omega (arith, h))
 path-rescaled adj o lpc (a ∷ b ∷ []) h = absurd (omega (arith, h))
 path-rescaled adj o lpc (a ∷ b ∷ d ∷ []) h = absurd (omega (arith, h))
 path-rescaled adj o lpc (a ∷ b ∷ d ∷ e ∷ []) h = absurd (omega (arith, h))
-path-rescaled adj o lpc (a ∷ b ∷ d ∷ e ∷ g ∷ l) h = record { five = h; level = refl; pred = scaled-long adj 0 40 e }
+path-rescaled adj o lpc (a ∷ b ∷ d ∷ e ∷ g ∷ l) h = record { five = h; level = refl; mark = refl; pred = scaled-long adj 0 40 e }
 
 path-own : (adj : ℤ) (w : Whole) → scaledPath adj w .own ≡ scaledOwn adj (w .own)
 unfolding scaledPath
@@ -112,7 +115,7 @@ scaled-paths : (f : Fix) (w : Bool) (adj : ℤ) (t : Running) → f .nStates ≡
 unfolding scaled scaledPaths
 scaled-paths f w adj t one = ap (λ (n : ℕ). iter (scalePathTurn adj) n (t .core .ps)) one
 
-scaled-at : (f : Fix) (w : Bool) (adj : ℤ) (t : Running)
+pub scaled-at : (f : Fix) (w : Bool) (adj : ℤ) (t : Running)
     → (scaled f w adj t .core .«smpl_buf_idx» ≡ t .core .«smpl_buf_idx») × (scaled f w adj t .pulses ≡ t .pulses)
 unfolding scaled
 scaled-at f w adj t = (refl, refl)
@@ -139,7 +142,7 @@ scaled-keeps f w adj t one h =
       wide = ap (λ (z : List (List ℤ)). length (getD z ringPred [])) a ∙ r .pred;
       at = scaled-at f w adj t .0;
       seed = ap (λ (z : Path). z .«Seed») b ∙ scaled-own adj (old .own) .0;
-      init = ap (λ (z : Path). z .«SeedInit») b ∙ scaled-own adj (old .own) .1;
+      init = ap (λ (z : Path). z .«SeedInit») b ∙ scaled-own adj (old .own) .1 .0;
     }
 
 regained-kept : {Q : ℕ → ℤ} {s0 : ℤ} {ps : List ℤ} {g b : ℕ} (f : Fix) (w : Bool) (prev : ℤ) (t : Running) → f .nStates ≡ 1
@@ -168,10 +171,11 @@ pub best-one : (o : List Path) (n : ℕ) → n ≡ 1 → bestOf o n ≡ 0
 unfolding bestOf
 best-one o n e = rw e (either-alike (ltZ (getD o 0 noPath .«RD_Q10») (getD o 0 noPath .«RD_Q10»)) 0)
 
+-- the places of the last d pulses
 in-frame : (g d i m : ℕ) → d ≤ g → i < d → g ≤ m → (g - d + i < m) × (g - d + i < g)
 in-frame g d i m h k l = (omega arith, omega arith)
 
-near : (g d i : ℕ) → d ≤ g → d ≤ 40 → g ≤ g - d + i + 40
+pub near : (g d i : ℕ) → d ≤ g → d ≤ 40 → g ≤ g - d + i + 40
 near g d i h k = omega arith
 
 -- a row that is the same below b as another, and takes its word there

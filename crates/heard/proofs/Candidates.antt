@@ -71,7 +71,7 @@ pub record Fair (o seed ltp : ℤ) (c : Candidate) : Type 0 where
   pub exc : c .«LPC_exc_Q14» ≡ wrap32 (signedExcitation seed (c .«Q_Q10») +ℤ ltp)
 
 -- what holds of both
-abbrev Both : (Candidate → Type 0) → List Candidate → Type 0
+abbrev pub Both : (Candidate → Type 0) → List Candidate → Type 0
 Both F row = F (getD row 0 noCandidate) × F (getD row 1 noCandidate)
 
 candidate-fair : (o : ℤ) (t : Terms) (q rd : ℤ) → Level o q → Fair o (t .«Seed») (t .«LTP_pred_Q14») (candidateOf t q rd)
@@ -92,6 +92,7 @@ pub record Tabled (f : Fix) : Type 0 where
   pub offset : f .«offset_Q10» ≡ offsetOf kind type
   pub lambda : SFits w32 (f .«Lambda_Q10»)
 
+-- so both candidates of a path are fair
 residual-levels : (f : Fix) → Tabled f → (t : Terms) (nLTP : ℤ)
     → Level (f .«offset_Q10») (choice (residualOf t nLTP) (f .«Lambda_Q10») (f .«offset_Q10») .«first_level»)
     × Level (f .«offset_Q10») (choice (residualOf t nLTP) (f .«Lambda_Q10») (f .«offset_Q10») .«second_level»)
@@ -99,7 +100,7 @@ unfolding residualOf
 residual-levels f k t nLTP =
     rw (k .offset) (levels-of _ _ _ (sample-pulses (t .«Seed») _ (f .«Lambda_Q10») (k .kind) (k .type) (k .kind2) (k .type1) (k .lambda)))
 
-pair-fair : (f : Fix) → Tabled f → (a : List ℤ) (s : Common) (i r0 : ℕ) (p : Path) (n : ℤ) (lpc : List ℤ) (ring : List (List ℤ))
+pub pair-fair : (f : Fix) → Tabled f → (a : List ℤ) (s : Common) (i r0 : ℕ) (p : Path) (n : ℤ) (lpc : List ℤ) (ring : List (List ℤ))
     → Both (Fair (f .«offset_Q10») (p .«Seed») (s .«LTP_pred_Q14»)) (pair f a s i r0 p n lpc ring)
 unfolding pair pairOf termsOf
 pair-fair f k a s i r0 p n lpc ring =
@@ -132,19 +133,19 @@ pub raised-fair : (o seed ltp : ℤ) (c : Candidate) → Fair o seed ltp c → F
 unfolding raised
 raised-fair o seed ltp c r = record { level = r .level; exc = r .exc }
 
--- what holds of both candidates of the first path still does after the penalty and after a replacement by itself
 module _ (F : Candidate → Type 0) where
-  unless-both : ((c : Candidate) → F c → F (raised c)) → (row : List Candidate) (state mark : ℤ) → Both F row → Both F (raisedUnless row state mark)
+  -- what holds of both candidates of a path still does after the penalty
+  pub unless-both : ((c : Candidate) → F c → F (raised c)) → (row : List Candidate) (state mark : ℤ) → Both F row → Both F (raisedUnless row state mark)
   unfolding raisedUnless
   unless-both up row state mark r = either-all (Both F) (sameWord state mark) _ _ (λ e. r) (λ e. (up _ (r .0), up _ (r .1)))
 
-  -- the penalty
+  -- so it does of the first path's
   pub penalised-first : ((c : Candidate) → F c → F (raised c)) → (c : List (List Candidate)) (rings : List (List (List ℤ))) (w last : ℕ)
       → First F c → First F (penalised c rings 1 w last)
   unfolding penalised
   penalised-first up c rings w last r = first-set F c _ (r .some) (unless-both up (getD c 0 []) _ _ (r .row))
 
-  -- the replacement: the second candidate takes the first's place, or nothing moves
+  -- and after a replacement by itself: the second candidate takes the first's place, or nothing moves
   pub movedOver-first : (d : List (List Candidate)) (s : Swap) → s .to ≡ 0 → s .by ≡ 0 → First F d → First F (movedOver d s)
   unfolding movedOver
   movedOver-first d s to by r =

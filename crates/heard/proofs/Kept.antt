@@ -26,7 +26,7 @@ use Rattle.steps.specs.Leaving.{leaves, emit}
 use Rattle.steps.specs.Shared.{common}
 use Rattle.steps.specs.Turn.{tookFrom, took, turn}
 use Rattle.counts.proofs.Rows.{Below}
-use Rattle.counts.proofs.Subframe.{bound, Wrote, wrote, emit-out}
+use Rattle.counts.proofs.Subframe.{bound, turn-wrote, emit-out}
 use Rattle.heard.specs.Inside.{seedIn, levelIn}
 use Rattle.heard.proofs.Ring.{place, ringOf, ring-next, down-ring, word-written, Holds, holds-next, holds-back}
 use Rattle.heard.proofs.Candidates.{Level, Tabled}
@@ -113,15 +113,11 @@ module _ (rule : Rule) (f : Fix) (v : Rows) (x : List ℤ) (k : Tabled f) (one :
   unfolding took tookFrom
   took-one i t h = sample-one rule f k one (v .half) (v .a) (v .ar) _ i _ _ _ (t .core .ps) h
 
-  turn-wrote : (i : ℕ) (t : Running) → Wrote f i (took rule f v x i t) t (turn rule f v x i t)
-  unfolding turn
-  turn-wrote i t = wrote f i (took rule f v x i t) t
-
   turn-words : {Q : ℕ → ℤ} {s0 : ℤ} {ps : List ℤ} {g b : ℕ} (i : ℕ) (t : Running) (s : Kept Q s0 ps g b t)
       → Words g (took-one i t (s .there) .took .c) t (turn rule f v x i t)
   turn-words {g = g} i t s =
       let o = took-one i t (s .there) .took in
-      let w = turn-wrote i t in
+      let w = turn-wrote rule f v x i t in
       let r : down (t .core .«smpl_buf_idx») ≡ place g = ap down (s .at) ∙ down-ring g in
       record {
         at = w .at ∙ r;
@@ -151,7 +147,7 @@ module _ (rule : Rule) (f : Fix) (v : Rows) (x : List ℤ) (k : Tabled f) (one :
       let old = levelRow (t .core .ps .rings) in
       let a = took-one i t (s .there) in
       let o = a .took in
-      let w = turn-wrote i t in
+      let w = turn-wrote rule f v x i t in
       let y = turn-words i t s in
       let n : f .base + suc i ≡ suc g = omega arith in
       let level : o .c .«Q_Q10» ≡ Q g = sym (words-level y (s .long)) ∙ chosen in

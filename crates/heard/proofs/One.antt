@@ -19,7 +19,7 @@ use Rattle.path.specs.declared.structs.Halves.{Halves}
 use Rattle.path.specs.declared.structs.Common.{Common}
 use Rattle.path.specs.declared.structs.Moves.{Moves}
 use Rattle.path.specs.declared.structs.Swap.{Swap}
-use Rattle.path.specs.Data.{noPath, Paths, paths, candidateAt, ringQ, ringPred, ringAt}
+use Rattle.path.specs.Data.{noPath, Paths, paths, candidateAt, ringRandState, ringQ, ringPred, ringAt}
 use Rattle.path.specs.Path.{moved}
 use Rattle.path.specs.Taken.{raised, takenOwn, takenRings, taken}
 use Rattle.winner.specs.Winner.{leastOf, worstOf}
@@ -70,24 +70,27 @@ replaced-0 rule s i p to by =
     (either-all (λ (q : Paths). (q .owns ≡ p .owns) × (q .rings ≡ p .rings)) (s .yes) _ _ (λ e. copied-0 rule i p) (λ e. (refl, refl)))
 
 -- ---- the path takes a candidate
-own-took : (c : Candidate) (p : Path) → (takenOwn c p .«Seed» ≡ seedWith (p .«Seed») (c .«Q_Q10»)) × (takenOwn c p .«SeedInit» ≡ p .«SeedInit»)
+-- its own words
+pub own-took : (c : Candidate) (p : Path)
+    → (takenOwn c p .«Seed» ≡ seedWith (p .«Seed») (c .«Q_Q10»)) × ((takenOwn c p .«SeedInit» ≡ p .«SeedInit») × (takenOwn c p .«RD_Q10» ≡ c .«RD_Q10»))
 unfolding takenOwn
-own-took c p = (refl, refl)
+own-took c p = (refl, (refl, refl))
 
 -- the rings of one path, one row each
-record RingsTook (c : Candidate) (r : ℕ) (old new : List (List ℤ)) : Type 0 where
-  five : length new ≡ 5
-  level : getD new ringQ [] ≡ set (getD old ringQ []) r (c .«Q_Q10»)
-  pred : getD new ringPred [] ≡ set (getD old ringPred []) r (shl32 (c .«LPC_exc_Q14») 1)
+pub record RingsTook (c : Candidate) (r : ℕ) (seed : ℤ) (old new : List (List ℤ)) : Type 0 where
+  pub five : length new ≡ 5
+  pub level : getD new ringQ [] ≡ set (getD old ringQ []) r (c .«Q_Q10»)
+  pub pred : getD new ringPred [] ≡ set (getD old ringPred []) r (shl32 (c .«LPC_exc_Q14») 1)
+  pub mark : getD new ringRandState [] ≡ set (getD old ringRandState []) r seed
 
-rings-took : (c : Candidate) (r : ℕ) (seed : ℤ) (l : List (List ℤ)) → length l ≡ 5 → RingsTook c r l (takenRings c r seed l)
+pub rings-took : (c : Candidate) (r : ℕ) (seed : ℤ) (l : List (List ℤ)) → length l ≡ 5 → RingsTook c r seed l (takenRings c r seed l)
 unfolding takenRings
 rings-took c r seed [] h = absurd (omega (arith, h))
 rings-took c r seed (a ∷ []) h = absurd (omega (arith, h))
 rings-took c r seed (a ∷ b ∷ []) h = absurd (omega (arith, h))
 rings-took c r seed (a ∷ b ∷ d ∷ []) h = absurd (omega (arith, h))
 rings-took c r seed (a ∷ b ∷ d ∷ e ∷ []) h = absurd (omega (arith, h))
-rings-took c r seed (a ∷ b ∷ d ∷ e ∷ g ∷ l) h = record { five = h; level = refl; pred = refl }
+rings-took c r seed (a ∷ b ∷ d ∷ e ∷ g ∷ l) h = record { five = h; level = refl; pred = refl; mark = refl }
 
 -- the paths q after the first took a candidate of which F holds; before it Seed was s, SeedInit s0, and the rings these
 pub record TookOne (F : Candidate → Type 0) (s s0 : ℤ) (r : ℕ) (rings : List (List (List ℤ))) (q : Paths) : Type 0 where
@@ -141,7 +144,7 @@ module _ (F : Candidate → Type 0) where
               five = ap (λ (z : List (List ℤ)). length z) b ∙ t .five;
             };
         seed = ap (λ (z : Path). z .«Seed») a ∙ own-took c own .0;
-        init = ap (λ (z : Path). z .«SeedInit») a ∙ own-took c own .1;
+        init = ap (λ (z : Path). z .«SeedInit») a ∙ own-took c own .1 .0;
         level = ap (λ (z : List (List ℤ)). getD z ringQ []) b ∙ t .level;
         pred = ap (λ (z : List (List ℤ)). getD z ringPred []) b ∙ t .pred;
       }

@@ -27,7 +27,7 @@ use Rattle.heard.proofs.Candidates.{Level}
 use Rattle.heard.proofs.Kept.{seeds, seeds-0, seeds-next, Rounds}
 
 -- the pulse that is handed out for the level of a pulse is that pulse
-pulse-out : {o q : ℤ} (l : Level o q) → pulseOf q ≡ l .p
+pub pulse-out : {o q : ℤ} (l : Level o q) → pulseOf q ≡ l .p
 pulse-out {o} {q} l =
     let a = le-lin (l .low) in
     let b = le-lin (l .high) in

@@ -37,7 +37,8 @@ down-ring g = go (eqb (ringOf g) 0) refl
     go false e = let z : ringOf g ≢ 0 = eqb-false (ringOf g) 0 e in omega arith
 
 -- ---- places of samples before
-place-back : (g d : ℕ) → d ≤ g → d ≤ 40 → (place g + d) % 40 ≡ place (g - d)
+-- the place of the sample that is d old
+pub place-back : (g d : ℕ) → d ≤ g → d ≤ 40 → (place g + d) % 40 ≡ place (g - d)
 place-back g d h k = omega arith
 
 shift : (r d i : ℕ) → i < d → r + d - 1 - i ≡ r + (d - 1 - i)
@@ -56,7 +57,8 @@ place-flush g d i h k l =
     ∙ place-back (g - 1) (d - 1 - i) (omega arith) (omega arith)
     ∙ ap (λ (h : ℕ). place h) (shifted g d i h l)
 
-place-apart : (g h : ℕ) → h < g → suc g ≤ h + 40 → place h ≢ place g
+-- the last 40 samples have places of their own
+pub place-apart : (g h : ℕ) → h < g → suc g ≤ h + 40 → place h ≢ place g
 place-apart g h p q = λ e. omega arith
 
 -- ---- words in a row of the ring

@@ -41,10 +41,11 @@ use Rattle.heard.proofs.Reader.{read-all}
 
 -- ---- the reader on the row of a call's own pulses
 -- the RFC's offset of a call
-abbrev rfcOffset : Call → ℤ
+abbrev pub rfcOffset : Call → ℤ
 rfcOffset c = «offset_Q23» (natZ (c .settings .signalType)) (natZ (c .settings .quantOffsetType))
 
-fix-offset : (c : Call) (k : ℕ) → fixOf c k .«offset_Q10» ≡ offsetOf (natZ (c .settings .signalType)) (natZ (c .settings .quantOffsetType))
+-- the offset of a subframe is that of the two types
+pub fix-offset : (c : Call) (k : ℕ) → fixOf c k .«offset_Q10» ≡ offsetOf (natZ (c .settings .signalType)) (natZ (c .settings .quantOffsetType))
 unfolding fixBy givenBy
 fix-offset c k = refl
 

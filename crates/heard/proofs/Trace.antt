@@ -3,9 +3,8 @@ use Prim.Native.Nat.{ℕ, zero, suc, _+_, _-_, _*_, _<_, _≤_}
 use native.Mathlib.Omega.{arith}
 use native.Mathlib.Nat.{suc-mul}
 use mathlib.Core.Path.{_≡_, refl, sym, ap, _∙_, subst}
-use mathlib.Core.Bool.{true}
 use mathlib.Core.List.{List}
-use lib.ListN.{getD, length}
+use lib.ListN.{getD}
 use lib.Dec.{eqb}
 use lib.IntN.{ℤ}
 use mir.Syntax.{w32}
@@ -22,7 +21,6 @@ use Rattle.steps.specs.declared.structs.Given.{Given}
 use Rattle.steps.specs.Call.{Call, givenOf, lengthOf, countOf, pathsOf, delayOf, second, rewhites, since, fixBy, fixOf, rowsOf, whiteGain}
 use Rattle.steps.specs.Frame.{Framed, start, flushedRun, subframeTurn, endedBy}
 use Rattle.steps.specs.Entry.{Outcome, answered, outcome}
-use Rattle.steps.proofs.Sound.{second-is}
 use Rattle.counts.proofs.Rows.{below-all}
 use Rattle.counts.proofs.Subframe.{bound}
 use Rattle.counts.proofs.Place.{stands, behind, ends}
@@ -30,20 +28,15 @@ use Rattle.counts.proofs.Accepted.{Ready, ready}
 use Rattle.heard.specs.Inside.{opened, atSample, seedIn, levelIn}
 use Rattle.heard.proofs.Passes.{subframe-opens, sample-next, subframe-closes, outcome-ends}
 use Rattle.heard.proofs.Kept.{seeds, Sampled, Kept, turn-sampled, turn-kept}
-use Rattle.heard.proofs.Between.{back-kept, best-one, flush-kept, Midway, before-kept}
+use Rattle.heard.proofs.Between.{back-kept, best-one, flush-kept, before-kept}
 use Rattle.heard.proofs.Start.{givenSeed, start-kept}
-use Rattle.heard.proofs.Accepted.{seed-in-range, delay-some, tabled}
+use Rattle.heard.proofs.Accepted.{seed-in-range, delay-some, tabled, midway}
 use Rattle.heard.proofs.Levels.{levelAt, level-in, pulseRow, row-long, row-rounds}
 
--- what the scalars of subframe k are
-record FixIs (c : Call) (k : ℕ) : Type 0 where
-  delay : fixOf c k .decisionDelay ≡ delayOf c
-  length : fixOf c k .«subfr_length» ≡ lengthOf c
-  paths : fixOf c k .nStates ≡ pathsOf c
-
-fix-is : (c : Call) (k : ℕ) → FixIs c k
+-- how many paths subframe k has
+fix-paths : (c : Call) (k : ℕ) → fixOf c k .nStates ≡ pathsOf c
 unfolding fixBy
-fix-is c k = record { delay = refl; length = refl; paths = refl }
+fix-paths c k = refl
 
 -- the end of one path: its last pulses, and the seed that it started from
 end-0 : (g : Given) (last lag : ℤ) (words : List ℤ) (t : Framed) → g .nStates ≡ 1
@@ -61,11 +54,11 @@ abbrev KeptIn : Rule → Call → List ℤ → List ℤ → ℕ → ℕ → Runn
 KeptIn rule c x out g b t = Kept (levelAt rule c x out) (givenSeed c) (pulseRow rule c x out (countOf c * lengthOf c)) g b t
 
 -- how many pulses are out before sample i of subframe k
-abbrev outAt : Call → ℕ → ℕ → ℕ
+abbrev pub outAt : Call → ℕ → ℕ → ℕ
 outAt c k i = bound (eqb (since c k) 0) (k * lengthOf c) (delayOf c) i
 
 -- the frame in work after k subframes
-abbrev after : Rule → Call → List ℤ → List ℤ → ℕ → Framed
+abbrev pub after : Rule → Call → List ℤ → List ℤ → ℕ → Framed
 after rule c x out k = iter (subframeTurn rule c x) k (start c out)
 
 -- ---- an accepted call with one path
@@ -81,25 +74,14 @@ module _ (rule : Rule) (c : Call) (x out : List ℤ) (e : codeOf (answered c x o
   At : ℕ → ℕ → Running → Type 0
   At k i t = KeptIn rule c x out (k * lengthOf c + i) (outAt c k i) t
 
-  midway : (k : ℕ) → k < countOf c → Midway (second c k) (fixOf c k) (countOf c * lengthOf c) (k * lengthOf c)
-  midway k h =
-      let f = fix-is c k in
-      let two : second c k ≡ true → k * lengthOf c ≡ 2 * lengthOf c = λ e. ap (λ (z : ℕ). z * lengthOf c) (second-is (givenOf c) k e .0) in
-      record {
-        few = subst (λ (z : ℕ). z ≤ 40) (sym (f .delay)) (r .sound .delay40);
-        two = λ e. two e ∙ ap (λ (z : ℕ). 2 * z) (sym (f .length));
-        within = λ e.
-            subst (λ (z : ℕ). 2 * z ≤ countOf c * lengthOf c) (sym (f .length)) (let a = subframe-within (lengthOf c) h in let b = two e in omega arith);
-      }
-
   opened-at : (k : ℕ) → k < countOf c → (t : Framed) → Done-to k t → At k 0 (opened c k t)
   unfolding Done-to At
   opened-at k h t s =
       let a : k * lengthOf c ≡ k * lengthOf c + 0 = omega arith in
       subst (λ (z : ℕ). KeptIn rule c x out z (outAt c k 0) (opened c k t)) a
       (before-kept (countOf c * lengthOf c) (row-rounds rule c x out (countOf c * lengthOf c)) (second c k) (rewhites c k) (fixOf c k) (rowsOf c k .a)
-      (word (c .«Gains_Q16») 1) (whiteGain c k) (t .«prev_gain_Q16») (t .run) (t .sLTP) (fix-is c k .paths ∙ one)
-      (stands (givenOf c) (c .pitchL) (c .«LF_shp_Q14») (c .«Gains_Q16») k (r .sound .delayShort)) (midway k h) s)
+      (word (c .«Gains_Q16») 1) (whiteGain c k) (t .«prev_gain_Q16») (t .run) (t .sLTP) (fix-paths c k ∙ one)
+      (stands (givenOf c) (c .pitchL) (c .«LF_shp_Q14») (c .«Gains_Q16») k (r .sound .delayShort)) (midway c x out e k h) s)
 
   first-at : (k : ℕ) → k < countOf c → Done-to k (after rule c x out k) → At k 0 (atSample rule c x out k 0)
   first-at k h s = subst (At k 0) (sym (subframe-opens rule c x out k)) (opened-at k h (after rule c x out k) s)
@@ -161,7 +143,7 @@ module _ (rule : Rule) (c : Call) (x out : List ℤ) (e : codeOf (answered c x o
       let t = atSample rule c x out k i in
       let z : At k i t = kept-at k i h l in
       subst (Sampled (fixOf c k) (common (fixOf c k) (rowsOf c k) x i t .«LTP_pred_Q14») t) (sym (sample-next rule c x out k i))
-      (turn-sampled rule (fixOf c k) (rowsOf c k) x (tabled c x out e fit k) (fix-is c k .paths ∙ one) i t z)
+      (turn-sampled rule (fixOf c k) (rowsOf c k) x (tabled c x out e fit k) (fix-paths c k ∙ one) i t z)
 
   -- the pulses handed out are those of the levels, and the seed handed out is the one given
   pub handed-out : (outcome rule c x out .pulses ≡ pulseRow rule c x out (countOf c * lengthOf c)) × (outcome rule c x out .seed ≡ givenSeed c)

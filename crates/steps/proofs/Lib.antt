@@ -1,3 +1,4 @@
+pub mod Best
 pub mod Outcomes
 pub mod Rules
 pub mod Sound
