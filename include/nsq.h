@@ -4,7 +4,7 @@
  * All functions may be called with anything: they hold no state of their own, keep no pointer, allocate nothing and ask nothing
  * of their numbers. Each row is a pointer and its length IN ELEMENTS. What the caller owes is what C cannot check:
  *   - behind each pointer there are as many elements as its length says (length 0: any pointer, NULL too, nothing is read);
- *   - rows that are written (settings, samples, words, pulses, excitation) overlap no other row of the same call.
+ *   - rows that are written (settings, samples, words, pulses, report, excitation) overlap no other row of the same call.
  * A call may run at the same time as others on other rows. */
 #ifndef NSQ_H
 #define NSQ_H
@@ -23,7 +23,7 @@ enum {
     NSQ_BAD_ORDER = 2,  /* prediction order not 10 (L 40, 60) or 16 (L 80), or shaping order not even, 2 to 24 */
     NSQ_BAD_PATHS = 3,  /* path count not 1 to 4 */
     NSQ_BAD_KIND = 4,   /* signal type not 0 to 2, offset type not 0 or 1, interpolation not 0 to 4, or seed not 0 to 3 */
-    NSQ_BAD_ROW = 5,    /* a row has another length, those of settings and state too */
+    NSQ_BAD_ROW = 5,    /* a row has another length, those of settings, state and report too */
     NSQ_BAD_GAIN = 6,   /* a gain, or the state's previous gain, below 1 */
     NSQ_BAD_LAG = 7     /* voiced: one of the n lags is not 2L/5 to 18L/5; else: the state's lag or the last lag is neither 0 nor that */
 };
@@ -88,6 +88,31 @@ uint32_t nsq_del_dec(int32_t *settings, size_t settings_len,
                      const int32_t *lf, size_t lf_len,
                      const int32_t *gains, size_t gains_len,
                      const int32_t *lags, size_t lags_len);
+
+/* Codes one frame as nsq_del_dec does, by the same thirteen rows, and reports on it in one row more. Accepted: report[0] is at how many
+ * places of the frame the pulses handed out differ from those that the final winner chose itself, 0 to 320; the final winner is the path
+ * that is picked at the end of the frame, and pulses are handed out before that. That number is always 0, for any number of paths: this is
+ * proved (theorem belongs:report-0). It is counted all the same, in the pulses that each path carries with it, for whoever would rather
+ * look at the number than trust that argument. Everything else is as with nsq_del_dec.
+ *
+ *   report    1, written; what it held does not count
+ *
+ * Where report_len is not 1, the answer is the lowest of 1 to 4 that the settings give, else 5; where the settings have another length, it
+ * is 5. A refusal touches no row, the report neither: what it holds then is no count. */
+uint32_t nsq_del_dec_report(int32_t *settings, size_t settings_len,
+                            int16_t *samples, size_t samples_len,
+                            int32_t *words, size_t words_len,
+                            const int16_t *x, size_t x_len,
+                            int8_t *pulses, size_t pulses_len,
+                            const int16_t *pred, size_t pred_len,
+                            const int16_t *ltp, size_t ltp_len,
+                            const int16_t *ar, size_t ar_len,
+                            const int32_t *harm, size_t harm_len,
+                            const int32_t *tilt, size_t tilt_len,
+                            const int32_t *lf, size_t lf_len,
+                            const int32_t *gains, size_t gains_len,
+                            const int32_t *lags, size_t lags_len,
+                            int32_t *report, size_t report_len);
 
 /* What nsq_excitation answers. The lowest number that applies is given. A refusal (not 0) leaves the row as it was. */
 enum {

@@ -1,4 +1,4 @@
-/* Reads a stream of calls and runs one through the library. */
+/* Reads a stream of calls and runs one through the library, by either entry. */
 #include "calls.h"
 #include <stdio.h>
 #include <stdlib.h>
@@ -166,12 +166,22 @@ size_t pulses_len(const struct call *c)
     return l > 0 && n > 0 && l * n <= 320 ? (size_t)(l * n) : 0;
 }
 
+/* the thirteen rows that both entries are lent, in the order of nsq.h */
+#define LENT(c, s, settings, pulses) \
+    settings, NSQ_SETTINGS, (s)->samples, NSQ_SAMPLES, (s)->words, NSQ_WORDS, \
+        (c)->shorts[0], (c)->shorts_len[0], pulses, pulses_len(c), \
+        (c)->shorts[1], (c)->shorts_len[1], (c)->shorts[2], (c)->shorts_len[2], (c)->shorts[3], (c)->shorts_len[3], \
+        (c)->longs[0], (c)->longs_len[0], (c)->longs[1], (c)->longs_len[1], (c)->longs[2], (c)->longs_len[2], \
+        (c)->longs[3], (c)->longs_len[3], (c)->longs[4], (c)->longs_len[4]
+
 uint32_t run_call(const struct call *c, struct state *s, int32_t *settings, int8_t *pulses)
 {
     memcpy(settings, c->settings, sizeof c->settings);
-    return nsq_del_dec(settings, NSQ_SETTINGS, s->samples, NSQ_SAMPLES, s->words, NSQ_WORDS,
-                       c->shorts[0], c->shorts_len[0], pulses, pulses_len(c),
-                       c->shorts[1], c->shorts_len[1], c->shorts[2], c->shorts_len[2], c->shorts[3], c->shorts_len[3],
-                       c->longs[0], c->longs_len[0], c->longs[1], c->longs_len[1], c->longs[2], c->longs_len[2],
-                       c->longs[3], c->longs_len[3], c->longs[4], c->longs_len[4]);
+    return nsq_del_dec(LENT(c, s, settings, pulses));
+}
+
+uint32_t run_report(const struct call *c, struct state *s, int32_t *settings, int8_t *pulses, int32_t *report)
+{
+    memcpy(settings, c->settings, sizeof c->settings);
+    return nsq_del_dec_report(LENT(c, s, settings, pulses), report, 1);
 }

@@ -37,5 +37,7 @@ int32_t state_word(const struct state *s, size_t k);
 size_t pulses_len(const struct call *c);
 /* one call on a state: the number that comes back; `settings` holds the seed afterwards */
 uint32_t run_call(const struct call *c, struct state *s, int32_t *settings, int8_t *pulses);
+/* the same by nsq_del_dec_report, which writes to a row of one word too */
+uint32_t run_report(const struct call *c, struct state *s, int32_t *settings, int8_t *pulses, int32_t *report);
 
 #endif

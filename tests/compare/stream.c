@@ -1,6 +1,7 @@
-/* stream [--digest] [--state] < CALLS: runs a stream of calls through the library. For each call: its name, the answer, the seed, the
- * pulses twenty to a line where accepted; with --digest 64-bit FNV-1a of the state's words that count (where accepted) and of all
- * 1408; with --state those 1408 on five lines. */
+/* stream [--digest] [--state] [--report] < CALLS: runs a stream of calls through the library. For each call: its name, the answer, the
+ * seed, the pulses twenty to a line where accepted; with --digest 64-bit FNV-1a of the state's words that count (where accepted) and of
+ * all 1408; with --state those 1408 on five lines. With --report the calls go through nsq_del_dec_report, and each accepted one ends with
+ * a line `report` and the number, which must be 0; a refused one prints no such line, but `report touched` where it wrote to the row. */
 #include "calls.h"
 #include <stdio.h>
 #include <stdlib.h>
@@ -50,14 +51,47 @@ static void print_pulses(const int8_t *pulses, size_t n)
         printf("%d%c", pulses[i], i % 20 == 19 || i + 1 == n ? '\n' : ' ');
 }
 
+/* what no report is, so that one that was not written shows, and one that was written by a refused call */
+enum { UNWRITTEN = -1 };
+
+static void print_report(uint32_t answer, int32_t report)
+{
+    if (answer == NSQ_ACCEPTED)
+        printf("report %ld\n", (long)report);
+    else if (report != UNWRITTEN)
+        printf("report touched\n");
+}
+
+struct options {
+    int digest, words, report;
+};
+
+static void run_and_print(const struct call *c, struct state *s, const struct options *o)
+{
+    int32_t settings[NSQ_SETTINGS], report = UNWRITTEN;
+    int8_t pulses[320] = {0};
+    uint32_t answer = o->report ? run_report(c, s, settings, pulses, &report) : run_call(c, s, settings, pulses);
+    printf("call %s\nanswer %u\nseed %d\n", c->name, (unsigned)answer, (int)settings[NSQ_SEED]);
+    if (answer == NSQ_ACCEPTED)
+        print_pulses(pulses, pulses_len(c));
+    if (o->digest)
+        print_digests(s, answer == NSQ_ACCEPTED, c->settings[NSQ_SUBFR_LENGTH]);
+    if (o->words)
+        print_state(s);
+    if (o->report)
+        print_report(answer, report);
+}
+
 int main(int argc, char **argv)
 {
-    int digest = 0, words = 0;
+    struct options o = {0, 0, 0};
     for (int i = 1; i < argc; i++) {
         if (!strcmp(argv[i], "--digest"))
-            digest = 1;
+            o.digest = 1;
         else if (!strcmp(argv[i], "--state"))
-            words = 1;
+            o.words = 1;
+        else if (!strcmp(argv[i], "--report"))
+            o.report = 1;
         else
             return fprintf(stderr, "unknown option %s\n", argv[i]), 2;
     }
@@ -66,21 +100,11 @@ int main(int argc, char **argv)
     struct state s;
     fresh_state(&s);
     for (size_t i = 0; i < n; i++) {
-        const struct call *c = &calls[i];
-        int32_t settings[NSQ_SETTINGS];
-        int8_t pulses[320] = {0};
-        if (c->kind == FRESH)
+        if (calls[i].kind == FRESH)
             fresh_state(&s);
-        else if (c->kind == GIVEN)
-            s = c->given;
-        uint32_t answer = run_call(c, &s, settings, pulses);
-        printf("call %s\nanswer %u\nseed %d\n", c->name, (unsigned)answer, (int)settings[NSQ_SEED]);
-        if (answer == NSQ_ACCEPTED)
-            print_pulses(pulses, pulses_len(c));
-        if (digest)
-            print_digests(&s, answer == NSQ_ACCEPTED, c->settings[NSQ_SUBFR_LENGTH]);
-        if (words)
-            print_state(&s);
+        else if (calls[i].kind == GIVEN)
+            s = calls[i].given;
+        run_and_print(&calls[i], &s, &o);
     }
     return 0;
 }

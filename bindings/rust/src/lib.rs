@@ -2,7 +2,8 @@
 //!
 //! A [`State`] holds what one frame leaves for the next; [`State::code`] codes a frame by [`Settings`] and [`Rows`] and writes its
 //! pulses. The lengths of the rows are tested here, before the call, and again by the library: a wrong one is [`Refusal::Row`]. A refused
-//! call leaves the state and the pulses as they were. [`excitation`] is what the far end makes of a frame's pulses.
+//! call leaves the state and the pulses as they were. [`State::code_reported`] codes a frame likewise and counts where the pulses handed out
+//! differ from the winner's own, which is nowhere. [`excitation`] is what the far end makes of a frame's pulses.
 #![deny(missing_docs)]
 
 mod ffi;
@@ -144,22 +145,51 @@ impl State {
     /// Codes a frame: writes N pulses, steps the state, and hands back the seed to code. Refused, nothing is touched.
     pub fn code(&mut self, settings: &Settings, rows: &Rows, pulses: &mut [i8]) -> Result<i32, Refusal> {
         let mut row = settings.row();
-        let fit = settings.frame_length().is_some_and(|n| rows.fit(n, settings.nb_subfr as usize) && pulses.len() == n);
-        let answer = if fit {
-            ffi::del_dec(&mut row, &mut self.samples, &mut self.words, rows, pulses)
+        let (samples, words) = self.lent(settings, rows, pulses.len());
+        accepted(ffi::del_dec(&mut row, samples, words, rows, pulses))?;
+        Ok(row[9])
+    }
+
+    /// Codes a frame as [`State::code`] does, and reports at how many of its places the pulses handed out differ from those that the final
+    /// winner chose itself. That is proved to be 0 for every frame that is accepted; the library counts it all the same, for whoever would
+    /// rather look at the number than trust the proof.
+    pub fn code_reported(&mut self, settings: &Settings, rows: &Rows, pulses: &mut [i8]) -> Result<Reported, Refusal> {
+        let (mut row, mut report) = (settings.row(), [-1]); // no count, so that one which is not written shows
+        let (samples, words) = self.lent(settings, rows, pulses.len());
+        accepted(ffi::del_dec_report(&mut row, samples, words, rows, pulses, &mut report))?;
+        Ok(Reported { seed: row[9], differing: report[0] })
+    }
+
+    /// The rows of the state where all lengths fit; else none, so that the settings' refusal comes back, else 5.
+    fn lent(&mut self, settings: &Settings, rows: &Rows, pulses: usize) -> (&mut [i16], &mut [i32]) {
+        let fit = settings.frame_length().is_some_and(|n| rows.fit(n, settings.nb_subfr as usize) && pulses == n);
+        if fit {
+            (&mut self.samples, &mut self.words)
         } else {
-            ffi::del_dec(&mut row, &mut [], &mut [], rows, pulses) // no state is lent: the settings' refusal, else 5
-        };
-        match answer {
-            0 => Ok(row[9]),
-            1 => Err(Refusal::Length),
-            2 => Err(Refusal::Order),
-            3 => Err(Refusal::Paths),
-            4 => Err(Refusal::Kind),
-            6 => Err(Refusal::Gain),
-            7 => Err(Refusal::Lag),
-            _ => Err(Refusal::Row),
+            (&mut [], &mut [])
         }
+    }
+}
+
+/// What [`State::code_reported`] hands back.
+#[derive(Clone, Copy, Debug, PartialEq, Eq)]
+pub struct Reported {
+    /// The seed to code, as from [`State::code`].
+    pub seed: i32,
+    /// At how many places of the frame the pulses handed out differ from the final winner's own: always 0.
+    pub differing: i32,
+}
+
+fn accepted(answer: u32) -> Result<(), Refusal> {
+    match answer {
+        0 => Ok(()),
+        1 => Err(Refusal::Length),
+        2 => Err(Refusal::Order),
+        3 => Err(Refusal::Paths),
+        4 => Err(Refusal::Kind),
+        6 => Err(Refusal::Gain),
+        7 => Err(Refusal::Lag),
+        _ => Err(Refusal::Row),
     }
 }
 

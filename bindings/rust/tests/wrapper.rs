@@ -1,5 +1,5 @@
 //! The wrapper: every refusal, wrong lengths of every row, and what a call does to state and pulses.
-use nsq::{excitation, HeardRefusal, Refusal, Rows, Settings, State, SAMPLES, WORDS};
+use nsq::{excitation, HeardRefusal, Refusal, Reported, Rows, Settings, State, SAMPLES, WORDS};
 
 fn settings(l: i32, n: i32) -> Settings {
     Settings {
@@ -31,10 +31,11 @@ impl Own {
     }
 }
 
-/// a call that must be refused so, and touch nothing
+/// a call that must be refused so, with a report and without, and touch nothing
 fn refused(why: Refusal, state: &State, s: &Settings, own: &Own, pulses: usize) {
     let (mut after, mut row) = (state.clone(), vec![77i8; pulses]);
     assert_eq!(after.code(s, &own.rows(), &mut row), Err(why));
+    assert_eq!(after.code_reported(s, &own.rows(), &mut row), Err(why));
     assert_eq!(&after, state);
     assert!(row.iter().all(|&p| p == 77));
 }
@@ -58,6 +59,25 @@ fn every_frame_size_is_coded() {
         assert_ne!(state, State::fresh());
         let again = State::from_rows(*state.samples(), *state.words());
         assert_eq!(again, state);
+    }
+}
+
+#[test]
+fn the_report_is_0_and_all_else_as_without() {
+    for (l, n) in [(40, 2), (40, 4), (60, 2), (60, 4), (80, 2), (80, 4)] {
+        let (mut plain, mut reported) = (State::fresh(), State::fresh());
+        for frame in 0..40 {
+            let s = Settings { n_states_delayed_decision: 1 + frame % 4, seed: frame & 3, signal_type: frame % 2, ..settings(l, n) };
+            let mut own = Own::new(&s);
+            own.shorts[0].rotate_left(frame as usize);
+            own.longs[3] = vec![1 << (18 + frame % 8); n as usize]; // fine steps and coarse ones, so few pulses and many
+            let len = s.frame_length().unwrap();
+            let (mut a, mut b) = (vec![77i8; len], vec![-77i8; len]);
+            let seed = plain.code(&s, &own.rows(), &mut a).unwrap();
+            assert_eq!(reported.code_reported(&s, &own.rows(), &mut b), Ok(Reported { seed, differing: 0 }));
+            assert_eq!((&a, &plain), (&b, &reported));
+            assert!(a.iter().any(|&p| p != 0));
+        }
     }
 }
 
