@@ -95,10 +95,12 @@ fn quantised(
     let b = words::halves24(seed, 12, h);
     let ar = words::halves24(seed, 13, h);
     let half = settings::halves(c, seed);
+    let mut own = words::no_rows();
     subframe::silk_noise_shape_quantizer_del_dec(
         w,
         lpc,
         ring,
+        &mut own,
         ltp,
         dgain,
         xq,

@@ -119,3 +119,8 @@ pub fn halves640(seed: i32, by: i32, s: u32) -> [i16; 640] {
 pub fn no_pulses() -> [i8; 320] {
     [0; 320]
 }
+
+// The rows of pulses that the paths carry, before the first sample.
+pub fn no_rows() -> [[i8; 320]; 4] {
+    [[0; 320]; 4]
+}

@@ -26,6 +26,9 @@ halves24-requires-3 c κs = search needs
 halves-requires : tie.Need-halves-requires
 halves-requires c κs = search needs
 
+no-rows-requires : tie.Need-no-rows-requires
+no-rows-requires c κs = search needs
+
 slice-aggregate-silk-noise-shape-quantizer-del-dec :
     tie.Need-slice-aggregate-silk-noise-shape-quantizer-del-dec
 slice-aggregate-silk-noise-shape-quantizer-del-dec c = search needs
@@ -44,7 +47,7 @@ slice-aggregate-silk-noise-shape-quantizer-del-dec-4 c = search needs
 
 silk-noise-shape-quantizer-del-dec-requires : tie.Need-silk-noise-shape-quantizer-del-dec-requires
 silk-noise-shape-quantizer-del-dec-requires c κs =
-    let q = c .before .before .before .before .before .before .before .before .before .before .before in
+    let q = c .before .before .before .before .before .before .before .before .before .before .before .before .before in
     let x = q .before .before .before .before .halves320 in
     let p = q .before .before .before .before .before .before .pre in
     ((p .0, p .1), ((omega arith, omega arith), (omega arith, (enough _ _ (p .0 .frame) (omega (arith, x .ok)), enough _ _ (p .0 .frame) (omega arith)))))
@@ -62,6 +65,7 @@ quantised-spec =
     halves24-requires-2
     halves24-requires-3
     halves-requires
+    no-rows-requires
     slice-aggregate-silk-noise-shape-quantizer-del-dec
     slice-aggregate-silk-noise-shape-quantizer-del-dec-2
     slice-aggregate-silk-noise-shape-quantizer-del-dec-3
