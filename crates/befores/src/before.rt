@@ -14,6 +14,7 @@ use crate::regain;
 use crate::white;
 use path::structs::Fix;
 use path::structs::Work;
+use steps::structs::Prior;
 
 // A subframe's paths, and the filtered history.
 pub struct Ready {
@@ -33,17 +34,19 @@ pub fn before(
     sltp: [i16; 640],
     a: &[i16],
     f: Fix,
-    again: bool,
-    rewhite: bool,
-    gain1: i32,
-    inv: i32,
+    p: Prior,
     prev: i32,
 ) -> Ready
-    requires { ⌜ ((Fits f × Room f) × ((pos 1 ≤ℤ prev) × (pos 1 ≤ℤ f .«Gain_Q16»))) × (((f .decisionDelay ≤ 2 * f .«subfr_length») × (2 * f .«subfr_length» ≤ length (now pulses))) × ((w .«smpl_buf_idx» < 40) × (f .predictLPCOrder ≤ length (now a)))) ⌝ }
-    ensures { λ r. ⌜ ((dgain : List ℤ) → whitenedOf (running (r .work) (now (lpc .exit)) (now (ring .exit)) (now (ltp .exit)) dgain (now (xq .exit)) (now (shp .exit)) (now (pulses .exit))) (r .sLTP) ≡ beforeZ again rewhite f (now (a .entry)) gain1 inv prev (running w (now (lpc .entry)) (now (ring .entry)) (now (ltp .entry)) dgain (now (xq .entry)) (now (shp .entry)) (now (pulses .entry))) sltp) × (r .work .«smpl_buf_idx» ≡ w .«smpl_buf_idx») ⌝ }
+    requires { ⌜ ((Fits f × Room f) × ((pos 1 ≤ℤ prev) × (pos 1 ≤ℤ f .«Gain_Q16»)))
+        × (((f .decisionDelay ≤ 2 * f .«subfr_length») × (2 * f .«subfr_length» ≤ length (now pulses))) × ((w .«smpl_buf_idx» < 40) × (f .predictLPCOrder ≤ length (now a)))) ⌝ }
+    ensures { λ r. ⌜ ((dgain : List ℤ)
+        → whitenedOf (running (r .work) (now (lpc .exit)) (now (ring .exit)) (now (ltp .exit)) dgain (now (xq .exit)) (now (shp .exit)) (now (pulses .exit))) (r .sLTP)
+        ≡ beforeZ (p .again) (p .rewhite) f (now (a .entry)) (p .gain1) (p .inv) prev
+        (running w (now (lpc .entry)) (now (ring .entry)) (now (ltp .entry)) dgain (now (xq .entry)) (now (shp .entry)) (now (pulses .entry))) sltp)
+        × (r .work .«smpl_buf_idx» ≡ w .«smpl_buf_idx») ⌝ }
 {
-    let u = middle::flushed_first(again, w, ring, xq, shp, pulses, f, gain1);
-    let row = white::whitened_first(rewhite, ltp, sltp, xq, a, f, inv);
-    let v = regain::regained(u, lpc, ring, ltp, shp, f, rewhite, prev);
+    let u = middle::flushed_first(p.again, w, ring, xq, shp, pulses, f, p.gain1);
+    let row = white::whitened_first(p.rewhite, ltp, sltp, xq, a, f, p.inv);
+    let v = regain::regained(u, lpc, ring, ltp, shp, f, p.rewhite, prev);
     Ready { work: v, sLTP: row }
 }

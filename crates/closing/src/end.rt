@@ -117,8 +117,10 @@ pub fn ended(
     lag: i32,
     g: Given,
 ) -> Handed
-    requires { ⌜ (((0 < g .«nb_subfr») × (g .«nb_subfr» ≤ 4)) × (g .«subfr_length» ≤ 80)) × (((0 < g .nStates) × (g .nStates ≤ 4)) × ((g .delay ≤ g .«subfr_length») × ((g .«nb_subfr» * g .«subfr_length» ≤ length (now pulses)) × (t .work .«smpl_buf_idx» < 40)))) ⌝ }
-    ensures words { λ r. ⌜ ((ltp dgain : List ℤ) → doneOf (r .seed) (r .state) (now (pulses .exit)) ≡ endedBy g last lag words (framedOf (running (t .work) lpc ring ltp dgain xq shp (now (pulses .entry))) (t .sLTP) (t .prev))) ⌝ }
+    requires { ⌜ (((0 < g .«nb_subfr») × (g .«nb_subfr» ≤ 4)) × (g .«subfr_length» ≤ 80)) × (((0 < g .nStates) × (g .nStates ≤ 4))
+        × ((g .delay ≤ g .«subfr_length») × ((g .«nb_subfr» * g .«subfr_length» ≤ length (now pulses)) × (t .work .«smpl_buf_idx» < 40)))) ⌝ }
+    ensures words { λ r. ⌜ ((ltp dgain : List ℤ) → doneOf (r .seed) (r .state) (now (pulses .exit))
+        ≡ endedBy g last lag words (framedOf (running (t .work) lpc ring ltp dgain xq shp (now (pulses .entry))) (t .sLTP) (t .prev))) ⌝ }
     ensures report { λ r. ⌜ r .report ≡ pos (differ (now (pulses .exit)) (bestRow (t .work .ps) (g .nStates) (now (chosen .entry))) (g .«nb_subfr» * g .«subfr_length»)) ⌝ }
 {
     let work = t.work;

@@ -6,8 +6,7 @@ ghost use lib.ListN.{length, replicate};
 ghost use lib.IntN.{pos};
 ghost use lib.Signed.{_≤ℤ_};
 ghost use Rattle.steps.specs.Among.{fullCopy};
-ghost use Rattle.steps.specs.Carried.{chosen, carriedBy, noRows};
-ghost use Rattle.steps.specs.Report.{differ, bestRow, frameReport};
+ghost use Rattle.steps.specs.Report.{reportFrom, frameReport};
 ghost use Rattle.fixed.specs.Row.{word};
 ghost use Rattle.path.specs.Data.{paths, running};
 ghost use Rattle.refusal_rules.specs.Good.{Good};
@@ -67,23 +66,13 @@ fn rest(
     g: Given,
 ) -> Handed
     requires { ⌜ ((Sound g (now lags) × Stocked g (now x) (now pred) (now long) (now ar) (now tilt) (now harm) (now lf) (now gains) (now lags))
-        × (g .«nb_subfr» * g .«subfr_length» ≤ length (now pulses)))
-        × ((pos 1 ≤ℤ t .prev) × (t .work .«smpl_buf_idx» < 40)) ⌝ }
-    ensures words { λ r. ⌜ doneOf (r .seed) (r .state) (now (pulses .exit))
-        ≡ endedBy g (word (now (gains .entry)) (g .«nb_subfr» - 1)) (word (now (lags .entry)) (g .«nb_subfr» - 1)) words
+        × (g .«nb_subfr» * g .«subfr_length» ≤ length (now pulses))) × ((pos 1 ≤ℤ t .prev) × (t .work .«smpl_buf_idx» < 40)) ⌝ }
+    ensures words { λ r. ⌜ doneOf (r .seed) (r .state) (now (pulses .exit)) ≡ endedBy g (word (now (gains .entry)) (g .«nb_subfr» - 1)) (word (now (lags .entry)) (g .«nb_subfr» - 1)) words
         (runBy fullCopy g (now (x .entry)) (now (pred .entry)) (now (long .entry)) (now (ar .entry)) (now (tilt .entry)) (now (harm .entry)) (now (lf .entry)) (now (gains .entry)) (now (lags .entry))
-        (g .«nb_subfr»)
-        (framedOf (running (t .work) lpcs rings (zeros 640) (zeros 40) history shaping (now (pulses .entry))) (t .sLTP) (t .prev))) ⌝ }
+        (g .«nb_subfr») (framedOf (running (t .work) lpcs rings (zeros 640) (zeros 40) history shaping (now (pulses .entry))) (t .sLTP) (t .prev))) ⌝ }
     ensures report { λ r. ⌜ r .report
-        ≡ pos (differ (now (pulses .exit))
-        (bestRow (runBy fullCopy g (now (x .entry)) (now (pred .entry)) (now (long .entry)) (now (ar .entry)) (now (tilt .entry)) (now (harm .entry)) (now (lf .entry)) (now (gains .entry)) (now (lags .entry))
-        (g .«nb_subfr»)
-        (framedOf (running (t .work) lpcs rings (zeros 640) (zeros 40) history shaping (now (pulses .entry))) (t .sLTP) (t .prev)) .run .core .ps .owns)
-        (g .nStates)
-        (carriedBy chosen fullCopy g (now (x .entry)) (now (pred .entry)) (now (long .entry)) (now (ar .entry)) (now (tilt .entry)) (now (harm .entry)) (now (lf .entry)) (now (gains .entry)) (now (lags .entry))
-        (g .«nb_subfr»)
-        (framedOf (running (t .work) lpcs rings (zeros 640) (zeros 40) history shaping (now (pulses .entry))) (t .sLTP) (t .prev)) noRows))
-        (g .«nb_subfr» * g .«subfr_length»)) ⌝ }
+        ≡ pos (reportFrom fullCopy g (now (x .entry)) (now (pred .entry)) (now (long .entry)) (now (ar .entry)) (now (tilt .entry)) (now (harm .entry)) (now (lf .entry)) (now (gains .entry)) (now (lags .entry))
+        (framedOf (running (t .work) lpcs rings (zeros 640) (zeros 40) history shaping (now (pulses .entry))) (t .sLTP) (t .prev)) (now (pulses .exit))) ⌝ }
 {
     let mut lpc = lpcs;
     let mut ring = rings;

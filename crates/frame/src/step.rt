@@ -57,23 +57,7 @@ pub fn step(
 {
     let w = t.work;
     let sltp = t.sLTP;
-    let r = before::before(
-        w,
-        lpc,
-        ring,
-        ltp,
-        xq,
-        shp,
-        pulses,
-        sltp,
-        a,
-        f,
-        p.again,
-        p.rewhite,
-        p.gain1,
-        p.inv,
-        t.prev,
-    );
+    let r = before::before(w, lpc, ring, ltp, xq, shp, pulses, sltp, a, f, p, t.prev);
     let u = r.work;
     let row = r.sLTP;
     let v = samples(

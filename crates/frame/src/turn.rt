@@ -129,8 +129,6 @@ pub fn turn(
     let h = scalars::halves_of(g, tilt, harm, k);
     let p = prior_of(g, gains, k);
     let from = scalars::row_of(g, k) * 16;
-    let five = k * 5;
-    let shape = k * 24;
     stepped(
         t,
         lpc,
@@ -149,7 +147,7 @@ pub fn turn(
         h,
         p,
         from,
-        five,
-        shape,
+        k * 5,
+        k * 24,
     )
 }

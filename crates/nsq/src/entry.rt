@@ -1,9 +1,14 @@
 // The call: document 01's refusals, then the frame.
 ghost use denote.Ref.{now};
 ghost use mathlib.Core.Path.{_≡_};
-ghost use lib.IntN.{pos};
+ghost use mathlib.Core.List.{List};
+ghost use lib.IntN.{ℤ, pos};
 ghost use Rattle.steps.specs.Among.{keepsFirst};
 ghost use Rattle.steps.specs.Call.{callOf};
+ghost use Rattle.steps.specs.Lent.{callAt};
+ghost use Rattle.steps.specs.Sizes.{sizesOf};
+ghost use Rattle.silk.specs.declared.structs.Settings.{Settings};
+ghost use Rattle.silk.specs.declared.structs.NsqState.{NsqState};
 ghost use Rattle.steps.specs.Entry.{outcomeOf, outcome};
 ghost use Rattle.steps.specs.Report.{report};
 use coding::accepted;
@@ -13,6 +18,33 @@ use refusals::check;
 use silk::structs::NsqState;
 use silk::structs::Settings;
 use steps::structs::Answered;
+
+// How long the rows of a call are.
+fn sizes(
+    x: &[i16],
+    pulses: &[i8],
+    pred: &[i16],
+    long: &[i16],
+    ar: &[i16],
+    harm: &[i32],
+    tilt: &[i32],
+    lf: &[i32],
+) -> Sizes
+    ensures { λ r. ⌜ ((s : Settings) (state : NsqState) (gains lags : List ℤ)
+        → r ≡ sizesOf (callOf s state (now (pred .entry)) (now (long .entry)) (now (ar .entry)) (now (harm .entry)) (now (tilt .entry)) (now (lf .entry)) gains lags)
+        (now (x .entry)) (now (pulses .entry))) ⌝ }
+{
+    Sizes {
+        samples: x.len(),
+        pred_coef: pred.len(),
+        ltp_coef: long.len(),
+        ar: ar.len(),
+        harm_gain: harm.len(),
+        tilt: tilt.len(),
+        lf: lf.len(),
+        pulses: pulses.len(),
+    }
+}
 
 // `silk_NSQ_del_dec_c`. Whatever it is given, the answer says whether the call was accepted, and if not, why: then the seed and
 // the state are those given, no pulse is touched and the report is 0.
@@ -31,24 +63,11 @@ pub fn silk_NSQ_del_dec(
     lags: &[i32],
 ) -> Answered
     ensures outcome { λ r. ⌜ outcomeOf (r .answer) (r .seed) (r .state) (now (pulses .exit))
-        ≡ outcome keepsFirst
-        (callOf s state (now (pred .entry)) (now (long .entry)) (now (ar .entry)) (now (harm .entry)) (now (tilt .entry)) (now (lf .entry)) (now (gains .entry)) (now (lags .entry)))
-        (now (x .entry)) (now (pulses .entry)) ⌝ }
+        ≡ outcome keepsFirst (callAt s state (pred .entry) (long .entry) (ar .entry) (harm .entry) (tilt .entry) (lf .entry) (gains .entry) (lags .entry)) (now (x .entry)) (now (pulses .entry)) ⌝ }
     ensures report { λ r. ⌜ r .report
-        ≡ pos (report keepsFirst
-        (callOf s state (now (pred .entry)) (now (long .entry)) (now (ar .entry)) (now (harm .entry)) (now (tilt .entry)) (now (lf .entry)) (now (gains .entry)) (now (lags .entry)))
-        (now (x .entry)) (now (pulses .entry))) ⌝ }
+        ≡ pos (report keepsFirst (callAt s state (pred .entry) (long .entry) (ar .entry) (harm .entry) (tilt .entry) (lf .entry) (gains .entry) (lags .entry)) (now (x .entry)) (now (pulses .entry))) ⌝ }
 {
-    let z = Sizes {
-        samples: x.len(),
-        pred_coef: pred.len(),
-        ltp_coef: long.len(),
-        ar: ar.len(),
-        harm_gain: harm.len(),
-        tilt: tilt.len(),
-        lf: lf.len(),
-        pulses: pulses.len(),
-    };
+    let z = sizes(x, pulses, pred, long, ar, harm, tilt, lf);
     let answer = check::check(s, z, state.lagPrev, state.prev_gain_Q16, gains, lags);
     match answer {
         Answer::Accepted => {

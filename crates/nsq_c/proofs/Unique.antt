@@ -36,7 +36,7 @@ pub called-unique : (κs a r s e f : _) → called.Post κs a r e → called.Pos
     → (r ≡ s) × ((now (e .0) ≡ now (f .0)) × ((now (e .1 .0) ≡ now (f .1 .0)) × ((now (e .1 .1 .0) ≡ now (f .1 .1 .0)) × (now (e .1 .1 .1 .1 .0) ≡ now (f .1 .1 .1 .1 .0)))))
 called-unique κs a r s e f p q =
     let same = parts (p .0 ∙ sym (q .0)) in
-    let reply : ℕ → ℤ → Replied = λ n k. record { number = n; report = k } in
+    let reply : ℕ → ℤ → Replied = λ n k. record { code = n; report = k } in
     (ap₂ reply (same .0) (p .1 ∙ sym (q .1)), same .1)
 
 pub short-number-unique : (κs a r s e f : _) → short.Post κs a r e → short.Post κs a s f → r ≡ s

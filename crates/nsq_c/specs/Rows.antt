@@ -14,6 +14,8 @@ use Rattle.plain_rows.specs.Layout.{stateOf}
 use Rattle.plain_fresh.specs.Fresh.{stateFits}
 use Rattle.plain_answers.specs.Stateless.{stateless}
 use Rattle.plain_laid.specs.Laid.{Left, leftOf, laid}
+use denote.Ref.{now}
+use Rattle.steps.specs.Lent.{Lent}
 
 -- a call with the settings and the state that three rows hold; the others are the entry's own
 unfoldable pub called : List ℤ → List ℤ → List ℤ → Call → List ℤ → List ℤ → Left
@@ -28,3 +30,8 @@ called settings samples words c x out =
 abbrev pub callIn : List ℤ → List ℤ → List ℤ → List ℤ → List ℤ → List ℤ → List ℤ → List ℤ → List ℤ → List ℤ → List ℤ → Call
 callIn settings samples words pred ltp ar harm tilt lf gains lags =
     callOf (settingsOf settings) (stateOf samples words) pred ltp ar harm tilt lf gains lags
+
+-- .. from the rows as they are lent
+abbrev pub callLent : Lent → Lent → Lent → Lent → Lent → Lent → Lent → Lent → Lent → Lent → Lent → Call
+callLent settings samples words pred ltp ar harm tilt lf gains lags =
+    callIn (now settings) (now samples) (now words) (now pred) (now ltp) (now ar) (now harm) (now tilt) (now lf) (now gains) (now lags)

@@ -1,7 +1,7 @@
 // One call.
 ghost use denote.Ref.{now};
 ghost use mathlib.Core.Path.{_≡_};
-ghost use Rattle.nsq_c.specs.Rows.{called, callIn};
+ghost use Rattle.nsq_c.specs.Rows.{called, callLent};
 ghost use Rattle.plain_laid.specs.Laid.{leftOf};
 use crate::calling;
 
@@ -25,8 +25,7 @@ pub extern "C" fn nsq_del_dec(
 ) -> u32
     ensures { λ r. ⌜ leftOf r (now (settings .exit)) (now (samples .exit)) (now (words .exit)) (now (pulses .exit))
         ≡ called (now (settings .entry)) (now (samples .entry)) (now (words .entry))
-        (callIn (now (settings .entry)) (now (samples .entry)) (now (words .entry)) (now (pred .entry)) (now (long .entry))
-        (now (ar .entry)) (now (harm .entry)) (now (tilt .entry)) (now (lf .entry)) (now (gains .entry)) (now (lags .entry)))
+        (callLent (settings .entry) (samples .entry) (words .entry) (pred .entry) (long .entry) (ar .entry) (harm .entry) (tilt .entry) (lf .entry) (gains .entry) (lags .entry))
         (now (x .entry)) (now (pulses .entry)) ⌝ }
 {
     let r = calling::called(
@@ -44,5 +43,5 @@ pub extern "C" fn nsq_del_dec(
         gains,
         lags,
     );
-    r.number
+    r.code
 }

@@ -3,7 +3,7 @@ ghost use denote.Ref.{now};
 ghost use mathlib.Core.Path.{_≡_};
 ghost use lib.IntN.{pos};
 ghost use Rattle.plain_laid.specs.Laid.{leftOf};
-ghost use Rattle.nsq_c.specs.Rows.{called as calledZ, callIn};
+ghost use Rattle.nsq_c.specs.Rows.{called as calledZ, callLent};
 ghost use Rattle.nsq_c.specs.Report.{shortNumber, reportIn};
 use nsq::entry;
 use plain_answers::answers;
@@ -14,7 +14,7 @@ use settings_row::named;
 // What a call gives beside its rows.
 pub struct Replied {
     // document 01's number
-    pub number: u32,
+    pub code: u32,
     // at how many places the pulses differ from those that the final winner chose itself
     pub report: i32,
 }
@@ -45,35 +45,25 @@ pub fn called(
     gains: &[i32],
     lags: &[i32],
 ) -> Replied
-    ensures rows { λ r. ⌜ leftOf (r .number) (now (settings .exit)) (now (samples .exit)) (now (words .exit)) (now (pulses .exit))
+    ensures rows { λ r. ⌜ leftOf (r .code) (now (settings .exit)) (now (samples .exit)) (now (words .exit)) (now (pulses .exit))
         ≡ calledZ (now (settings .entry)) (now (samples .entry)) (now (words .entry))
-        (callIn (now (settings .entry)) (now (samples .entry)) (now (words .entry)) (now (pred .entry)) (now (long .entry))
-        (now (ar .entry)) (now (harm .entry)) (now (tilt .entry)) (now (lf .entry)) (now (gains .entry)) (now (lags .entry)))
+        (callLent (settings .entry) (samples .entry) (words .entry) (pred .entry) (long .entry) (ar .entry) (harm .entry) (tilt .entry) (lf .entry) (gains .entry) (lags .entry))
         (now (x .entry)) (now (pulses .entry)) ⌝ }
-    ensures report { λ r. ⌜ r .report
-        ≡ pos (reportIn (now (settings .entry)) (now (samples .entry)) (now (words .entry))
-        (callIn (now (settings .entry)) (now (samples .entry)) (now (words .entry)) (now (pred .entry)) (now (long .entry))
-        (now (ar .entry)) (now (harm .entry)) (now (tilt .entry)) (now (lf .entry)) (now (gains .entry)) (now (lags .entry)))
+    ensures report { λ r. ⌜ r .report ≡ pos (reportIn (now (settings .entry)) (now (samples .entry)) (now (words .entry))
+        (callLent (settings .entry) (samples .entry) (words .entry) (pred .entry) (long .entry) (ar .entry) (harm .entry) (tilt .entry) (lf .entry) (gains .entry) (lags .entry))
         (now (x .entry)) (now (pulses .entry))) ⌝ }
 {
     if settings.len() != 12 {
-        return Replied {
-            number: 5,
-            report: 0,
-        };
+        return Replied { code: 5, report: 0 };
     }
     let s = named::settings_of(settings);
     if samples.len() != 640 {
-        return Replied {
-            number: answers::stateless_number(s, gains, lags),
-            report: 0,
-        };
+        let k = answers::stateless_number(s, gains, lags);
+        return Replied { code: k, report: 0 };
     }
     if words.len() != 767 {
-        return Replied {
-            number: answers::stateless_number(s, gains, lags),
-            report: 0,
-        };
+        let k = answers::stateless_number(s, gains, lags);
+        return Replied { code: k, report: 0 };
     }
     let state = layout::state_of(samples, words);
     let a = entry::silk_NSQ_del_dec(
@@ -91,9 +81,9 @@ pub fn called(
         lags,
     );
     let count = a.report;
-    let number = laying::lay(a, settings, samples, words);
+    let code = laying::lay(a, settings, samples, words);
     Replied {
-        number: number,
+        code: code,
         report: count,
     }
 }

@@ -2,7 +2,7 @@
 ghost use denote.Ref.{now};
 ghost use mathlib.Core.Path.{_≡_};
 ghost use Rattle.plain_laid.specs.Laid.{leftOf};
-ghost use Rattle.nsq_c.specs.Rows.{callIn};
+ghost use Rattle.nsq_c.specs.Rows.{callLent};
 ghost use Rattle.nsq_c.specs.Report.{reportedOf, reported};
 use crate::calling;
 
@@ -28,8 +28,7 @@ pub extern "C" fn nsq_del_dec_report(
 ) -> u32
     ensures { λ r. ⌜ reportedOf (leftOf r (now (settings .exit)) (now (samples .exit)) (now (words .exit)) (now (pulses .exit))) (now (report .exit))
         ≡ reported (now (settings .entry)) (now (samples .entry)) (now (words .entry))
-        (callIn (now (settings .entry)) (now (samples .entry)) (now (words .entry)) (now (pred .entry)) (now (long .entry))
-        (now (ar .entry)) (now (harm .entry)) (now (tilt .entry)) (now (lf .entry)) (now (gains .entry)) (now (lags .entry)))
+        (callLent (settings .entry) (samples .entry) (words .entry) (pred .entry) (long .entry) (ar .entry) (harm .entry) (tilt .entry) (lf .entry) (gains .entry) (lags .entry))
         (now (x .entry)) (now (pulses .entry)) (now (report .entry)) ⌝ }
 {
     if report.len() != 1 {
@@ -50,9 +49,9 @@ pub extern "C" fn nsq_del_dec_report(
         gains,
         lags,
     );
-    if r.number == 0 {
+    if r.code == 0 {
         let count = r.report;
         report[0] = count;
     }
-    r.number
+    r.code
 }

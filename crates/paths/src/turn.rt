@@ -48,22 +48,8 @@ pub fn turn(
     let last = (r + f.decisionDelay) % 40;
     let s = common::common(f, h.HarmShapeFIRPacked_Q14, b, ltp, shp, x, i);
     let ps = w.ps;
-    let t = sample::sample(
-        ps,
-        lpc,
-        ring,
-        own,
-        f,
-        h,
-        a,
-        ar,
-        s,
-        i,
-        r0,
-        r,
-        last,
-        f.base + i,
-    );
+    let at = f.base + i;
+    let t = sample::sample(ps, lpc, ring, own, f, h, a, ar, s, i, r0, r, last, at);
     let g = dgain[last];
     emission::emit(
         ltp,

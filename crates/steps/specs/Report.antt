@@ -11,12 +11,13 @@ use Rattle.limits.specs.Count.{sameZ}
 use Rattle.path.specs.declared.structs.Path.{Path}
 use Rattle.refusal_rules.specs.declared.answer.Answer.{Answer}
 use Rattle.refusal_rules.specs.Code.{codeOf}
+use Rattle.steps.specs.declared.structs.Given.{Given}
 use Rattle.steps.specs.Among.{Rule}
 use Rattle.steps.specs.Flush.{bestOf}
 use Rattle.steps.specs.Call.{Call, lengthOf, countOf, pathsOf}
-use Rattle.steps.specs.Frame.{run, frame}
+use Rattle.steps.specs.Frame.{Framed, runBy, run, frame}
 use Rattle.steps.specs.Entry.{answered}
-use Rattle.steps.specs.Carried.{Note, chosen, carriedOf}
+use Rattle.steps.specs.Carried.{Note, chosen, carriedBy, noRows, carriedOf}
 
 -- ---- at how many places two rows differ
 -- one place more
@@ -31,6 +32,15 @@ differ s t n = iter (differTurn s t) n 0
 -- the row of the path of least running cost, among n
 abbrev pub bestRow : List Path → ℕ → List (List ℤ) → List ℤ
 bestRow owns n rows = getD rows (bestOf owns n) []
+
+-- of a frame that begins at t, by what is given and the rows of the call: at how many places the pulses `out` differ from those that the path of
+-- least running cost chose itself
+abbrev pub reportFrom : Rule → Given → List ℤ → List ℤ → List ℤ → List ℤ → List ℤ → List ℤ → List ℤ → List ℤ → List ℤ → Framed → List ℤ → ℕ
+reportFrom rule g x pred ltp ar tilt harm lf gains lags t out =
+    differ out
+    (bestRow (runBy rule g x pred ltp ar tilt harm lf gains lags (g .«nb_subfr») t .run .core .ps .owns) (g .nStates)
+    (carriedBy chosen rule g x pred ltp ar tilt harm lf gains lags (g .«nb_subfr») t noRows))
+    (g .«nb_subfr» * g .«subfr_length»)
 
 -- what the final winner noted at each sample of the frame
 unfoldable pub winnersRow : Note → Rule → Call → List ℤ → List ℤ → List ℤ

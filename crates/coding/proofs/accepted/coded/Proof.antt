@@ -2,7 +2,7 @@
 use mathlib.Core.Path.{ap, _∙_}
 use mathlib.Core.List.{List}
 use lib.IntN.{ℤ, pos}
-use Prim.Native.Nat.{_*_}
+use Prim.Native.Nat.{ℕ}
 use native.Mathlib.Omega.{arith}
 use borrow.Author.Needs.{needs}
 use denote.Ref.{now}
@@ -10,9 +10,8 @@ use Rattle.fixed.specs.Iter.{iter}
 use Rattle.silk.specs.State.{zeros}
 use Rattle.steps.specs.Among.{fullCopy}
 use Rattle.path.specs.Data.{Paths}
-use Rattle.steps.specs.Call.{Call, callOf, givenOf, lengthOf, countOf, pathsOf}
-use Rattle.steps.specs.Carried.{chosen, carriedBy, noRows}
-use Rattle.steps.specs.Report.{differ, bestRow, winnersRow, frameReport}
+use Rattle.steps.specs.Call.{Call, callOf, givenOf, countOf}
+use Rattle.steps.specs.Report.{reportFrom, winnersRow, frameReport}
 use Rattle.steps.specs.Frame.{Framed, Done, start, startPaths, subframeTurn, run, ended, frame}
 use Rattle.steps.proofs.Sound.{counts}
 use Rattle.coding.proofs.Ready.{ready, state}
@@ -34,14 +33,13 @@ startWith c out p =
       «prev_gain_Q16» = c .state .«prev_gain_Q16»;
     }
 
--- the rows that the paths carry at its end, from there
-abbrev carriedFrom : Call → List ℤ → Framed → List (List ℤ)
-carriedFrom c x t =
-    carriedBy chosen fullCopy (givenOf c) x (c .«PredCoef_Q12») (c .«LTPCoef_Q14») (c .«AR_Q13») (c .«Tilt_Q14») (c .«HarmShapeGain_Q14») (c .«LF_shp_Q14») (c .«Gains_Q16»)
+-- the report of a frame that begins there
+abbrev reportOf : Call → List ℤ → Framed → List ℤ → ℕ
+reportOf c x t out =
+    reportFrom fullCopy (givenOf c) x (c .«PredCoef_Q12») (c .«LTPCoef_Q14») (c .«AR_Q13») (c .«Tilt_Q14») (c .«HarmShapeGain_Q14») (c .«LF_shp_Q14») (c .«Gains_Q16»)
     (c .pitchL)
-    (countOf c)
     t
-    noRows
+    out
 
 given-of-requires : tie.Need-given-of-requires
 given-of-requires c κs = search needs
@@ -93,7 +91,7 @@ returns c =
     let ends : Framed → Done = λ t. ended it (iter (subframeTurn fullCopy it (now (a .x))) (countOf it) t) in
     let done = all ∙ ap ends (ap from began) in
     let reported : List ℤ → Framed → ℤ = λ out t.
-    pos (differ out (bestRow (iter (subframeTurn fullCopy it (now (a .x))) (countOf it) t .run .core .ps .owns) (pathsOf it) (carriedFrom it (now (a .x)) t)) (countOf it * lengthOf it)) in
+    pos (reportOf it (now (a .x)) t out) in
     (done, count ∙ ap (reported (rs .rest .last .1 .1 .1 .1 .1 .1 .1 .0)) (ap from began) ∙ ap (λ (d : Done). reported (d .pulses) (startWith it (now (a .pulses)) (startPaths it))) done)
 
 pub coded-spec : {M : Type 1} → statement M

@@ -27,11 +27,17 @@ mul-from c =
     let row = row-few (st .args .g) (st .args .k) (omega (arith, st .pre)) in
     record { fits = omega (arith, c .row-of .ensures) }
 
-mul-five : tie.Need-mul-five
-mul-five c = search needs
+mul-stepped : tie.Need-mul-stepped
+mul-stepped c =
+    let st = c .before .before .before .before .before .before .before .before .before .before .before .before in
+    let few = st .pre .0 .0 .0 .few in
+    record { fits = omega (arith, st .pre) }
 
-mul-shape : tie.Need-mul-shape
-mul-shape c = search needs
+mul-stepped-2 : tie.Need-mul-stepped-2
+mul-stepped-2 c =
+    let st = c .before .before .before .before .before .before .before .before .before .before .before .before in
+    let few = st .pre .0 .0 .0 .few in
+    record { fits = omega (arith, st .pre) }
 
 stepped-requires : tie.Need-stepped-requires
 stepped-requires c κs =
@@ -78,8 +84,8 @@ turn-spec =
     prior-of-requires
     row-of-requires
     mul-from
-    mul-five
-    mul-shape
+    mul-stepped
+    mul-stepped-2
     stepped-requires
     same-length
     returns)

@@ -12,13 +12,15 @@ use Rattle.refusal_rules.proofs.Matched.{tag-code, code-refused, good-matched}
 use Rattle.steps.specs.Call.{callOf}
 use Rattle.steps.specs.Frame.{Done}
 use Rattle.steps.specs.Entry.{Outcome, outcomeOf, answered, taken, outcomeBy, outcome}
-use Rattle.steps.specs.Sizes.{sizesOf}
 use Rattle.coding.proofs.Ready.{state}
 use Rattle.steps.specs.Report.{reportBy, report}
 use Rattle.steps.proofs.Outcomes.{accepted-by, refused-by, accepted-report, refused-report}
 use Rattle.full_copy.proofs.Theorems.{full-copy, full-copy-report}
 use Rattle.nsq.proofs.entry.silk_NSQ_del_dec.Statement.{statement}
 use Rattle.nsq.proofs.entry.silk_NSQ_del_dec.Tie as tie
+
+sizes-requires : tie.Need-sizes-requires
+sizes-requires c κs = search needs
 
 check-requires : tie.Need-check-requires
 check-requires c κs = search needs
@@ -27,14 +29,15 @@ enum-told : tie.Need-enum-told
 enum-told c = search needs
 
 coded-requires : tie.Need-coded-requires
-unfolding sizesOf
 coded-requires c κs =
     let keys = c .before .before in
     let ck = keys .before in
-    let st = ck .before .before .before in
+    let sz = ck .before .before .before in
+    let st = sz .before .before in
     let a = st .args in
     let s = state (a .state) (ck .before .before .struct-told .given) in
-    let e = rw (s .lag, s .gain) at (ck .check .ensures) in
+    let size = sz .sizes .ensures (a .s) (a .state) (now (a .gains)) (now (a .lags)) in
+    let e = rw (s .lag, s .gain, size) at (ck .check .ensures) in
     good-matched (a .s) _ (a .state .lagPrev) (a .state .«prev_gain_Q16») (now (a .gains)) (now (a .lags)) (ck .check .result) e (keys .match .keys1)
 
 same-length : tie.Need-same-length
@@ -42,15 +45,17 @@ same-length c = search needs
 
 -- the frame copies whole paths; the promise is by the Rust's rule, and the two outcomes and reports are one (`full-copy`, `full-copy-report`)
 returns : tie.Need-returns
-unfolding outcome report answered sizesOf
+unfolding outcome report answered
 returns c =
     let cd = c .before .before .before in
     let keys = cd .before .before .before in
     let ck = keys .before in
-    let st = ck .before .before .before in
+    let sz = ck .before .before .before in
+    let st = sz .before .before in
     let a = st .args in
     let s = state (a .state) (ck .before .before .struct-told .given) in
-    let e = rw (s .lag, s .gain) at (ck .check .ensures) in
+    let size = sz .sizes .ensures (a .s) (a .state) (now (a .gains)) (now (a .lags)) in
+    let e = rw (s .lag, s .gain, size) at (ck .check .ensures) in
     let it = callOf (a .s) (a .state) (now (a .pred)) (now (a .long)) (now (a .ar)) (now (a .harm)) (now (a .tilt)) (now (a .lf)) (now (a .gains)) (now (a .lags)) in
     let r = ck .check .result in
     let zero : codeOf r ≡ 0 = sym (tag-code r) ∙ keys .match .keys1 in
@@ -70,15 +75,20 @@ returns c =
           ∙ ap pos (sym (full-copy-report it (now (a .x)) (now (a .pulses))))),
     )
 
+same-length-2 : tie.Need-same-length-2
+same-length-2 c = search needs
+
 returns-2 : tie.Need-returns-2
-unfolding outcome report answered sizesOf
+unfolding outcome report answered
 returns-2 c =
     let keys = c .before in
     let ck = keys .before in
-    let st = ck .before .before .before in
+    let sz = ck .before .before .before in
+    let st = sz .before .before in
     let a = st .args in
     let s = state (a .state) (ck .before .before .struct-told .given) in
-    let e = rw (s .lag, s .gain) at (ck .check .ensures) in
+    let size = sz .sizes .ensures (a .s) (a .state) (now (a .gains)) (now (a .lags)) in
+    let e = rw (s .lag, s .gain, size) at (ck .check .ensures) in
     let it = callOf (a .s) (a .state) (now (a .pred)) (now (a .long)) (now (a .ar)) (now (a .harm)) (now (a .tilt)) (now (a .lf)) (now (a .gains)) (now (a .lags)) in
     let r = ck .check .result in
     let above = code-refused r (keys .match .keys2) in
@@ -92,4 +102,4 @@ returns-2 c =
 
 pub silk-NSQ-del-dec-spec : {M : Type 1} → statement M
 silk-NSQ-del-dec-spec =
-    tie.close (tie.spec check-requires enum-told coded-requires same-length returns returns-2)
+    tie.close (tie.spec sizes-requires check-requires enum-told coded-requires same-length returns same-length-2 returns-2)

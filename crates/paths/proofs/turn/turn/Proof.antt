@@ -31,9 +31,9 @@ add-last c = search needs
 common-requires : tie.Need-common-requires
 common-requires c κs = search needs
 
-add-sample : tie.Need-add-sample
-add-sample c =
-    let st = c .before .before .before .before .before .before .before .before .before .before .before in
+add-at : tie.Need-add-at
+add-at c =
+    let st = c .before .before .before .before .before .before .before .before in
     let fits = st .pre .0 .0 .frame in
     record { fits = omega (arith, st .pre) }
 
@@ -120,7 +120,7 @@ turn-spec =
     down-requires
     add-last
     common-requires
-    add-sample
+    add-at
     sample-requires
     mul-g
     element-copy-out-g
