@@ -24,8 +24,7 @@ pub sample-unique : (κs a r s e f : _) → sample.Post κs a r e → sample.Pos
     (r ≡ s) × (now (e .1 .0) ≡ now (f .1 .0)) × (now (e .1 .1 .0) ≡ now (f .1 .1 .0)) × (now (e .1 .1 .1 .0) ≡ now (f .1 .1 .1 .0))
 sample-unique κs a r s e f p q =
     let same = p .0 ∙ sym (q .0) in
-    let rings = ap (λ (t : Settled). t .ps .rings) same in
-    (ap sampledOf same, ap (λ (t : Settled). t .ps .lpcs) same, rings, rw rings at (p .1) ∙ sym (q .1))
+    (ap sampledOf same, ap (λ (t : Settled). t .ps .lpcs) same, ap (λ (t : Settled). t .ps .rings) same, p .1 ∙ sym (q .1))
 
 -- two subframes in work that are equal have equal parts, all eight
 all-parts : {t u : Running} → t ≡ u →

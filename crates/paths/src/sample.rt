@@ -4,7 +4,7 @@ ghost use Prim.Native.Nat.{_+_, _<_, _≤_};
 ghost use lib.ListN.{length};
 ghost use Rattle.path.specs.Data.{paths, ringAt};
 ghost use Rattle.steps.specs.Among.{fullCopy};
-ghost use Rattle.steps.specs.Carried.{swapFrom, copiedRow, pulsesNoted};
+ghost use Rattle.steps.specs.Carried.{swapFrom, copiedRow};
 ghost use Rattle.steps.specs.Each.{moves, pairs};
 ghost use Rattle.steps.specs.Settled.{settledOf, leaving as leavingZ, settled as settledZ};
 ghost use Rattle.steps.specs.Sample.{sample as sampleZ};
@@ -60,7 +60,7 @@ fn leaving(
     }
 }
 
-// The choice among the paths, once each has its two candidates. The pulses that they choose are noted at place g of the frame.
+// The choice among the paths, once each has its two candidates.
 fn settled(
     ps: [Path; 4],
     lpc: &mut [[i32; 96]; 4],
@@ -71,23 +71,21 @@ fn settled(
     i: usize,
     r: usize,
     last: usize,
-    g: usize,
 ) -> Sampled
-    requires { ⌜ ((0 < n) × (n ≤ 4)) × ((i < 80) × ((r < 40) × ((last < 40) × (g < 320)))) ⌝ }
+    requires { ⌜ ((0 < n) × (n ≤ 4)) × ((i < 80) × ((r < 40) × (last < 40))) ⌝ }
     ensures words { λ s. ⌜ settledOf s (now (lpc .exit)) (now (ring .exit)) ≡ settledZ fullCopy c n i r last (paths ps (now (lpc .entry)) (now (ring .entry))) ⌝ }
-    ensures chosen { λ s. ⌜ now (own .exit) ≡ pulsesNoted n g r (now (ring .exit)) (copiedRow (swapFrom c (now (ring .entry)) n last) (now (own .entry))) ⌝ }
+    ensures chosen { λ s. ⌜ now (own .exit) ≡ copiedRow (swapFrom c (now (ring .entry)) n last) (now (own .entry)) ⌝ }
 {
     let w = search::least(c, 0, n);
     let d = penalties::penalised(c, ring, n, w, last);
     let s = replacement::swap_of(d, n);
     let e = replacement::moved_over(d, s);
     let qs = replacement::replaced(ps, lpc, ring, own, s);
-    let t = leaving(qs, lpc, ring, e, n, i, r, last, w);
-    each::noted(own, ring, n, r, g);
-    t
+    leaving(qs, lpc, ring, e, n, i, r, last, w)
 }
 
-// One sample: r0 is the ring's place before it, r its place now, `last` the place of the sample that leaves, g its place in the frame.
+// One sample: r0 is the ring's place before it, r its place now, `last` the place of the sample that leaves. The pulses of a replaced path become those of
+// the path that it becomes.
 pub fn sample(
     ps: [Path; 4],
     lpc: &mut [[i32; 96]; 4],
@@ -102,21 +100,19 @@ pub fn sample(
     r0: usize,
     r: usize,
     last: usize,
-    g: usize,
 ) -> Sampled
-    requires { ⌜ ((0 < f .«nStates») × (f .«nStates» ≤ 4)) × (((i < 80) × ((r0 < 40) × ((r < 40) × ((last < 40) × (g < 320)))))
+    requires { ⌜ ((0 < f .«nStates») × (f .«nStates» ≤ 4)) × (((i < 80) × ((r0 < 40) × ((r < 40) × (last < 40))))
         × (((f .«predictLPCOrder» ≤ 16) × (16 ≤ length (now a)))
         × ((1 ≤ f .«shapingLPCOrder») × ((f .«shapingLPCOrder» ≤ 24) × (f .«shapingLPCOrder» ≤ length (now ar)))))) ⌝ }
     ensures words { λ t. ⌜ settledOf t (now (lpc .exit)) (now (ring .exit))
         ≡ sampleZ fullCopy f h (now (a .entry)) (now (ar .entry)) s i r0 r last (paths ps (now (lpc .entry)) (now (ring .entry))) ⌝ }
     ensures chosen { λ t. ⌜ now (own .exit)
-        ≡ pulsesNoted (f .«nStates») g r (now (ring .exit))
-        (copiedRow (swapFrom (pairs f (now (a .entry)) s i r0 (moves f h (now (ar .entry)) ps) (now (lpc .entry)) (now (ring .entry))) (now (ring .entry)) (f .«nStates») last)
-        (now (own .entry))) ⌝ }
+        ≡ copiedRow (swapFrom (pairs f (now (a .entry)) s i r0 (moves f h (now (ar .entry)) ps) (now (lpc .entry)) (now (ring .entry))) (now (ring .entry)) (f .«nStates») last)
+        (now (own .entry)) ⌝ }
 {
     let n = f.nStates;
     let m = each::moves(ps, f, h, ar);
     let c = each::pairs(m, f, a, s, i, r0, lpc, ring);
     let qs = m.owns;
-    settled(qs, lpc, ring, own, c, n, i, r, last, g)
+    settled(qs, lpc, ring, own, c, n, i, r, last)
 }

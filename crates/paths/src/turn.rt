@@ -7,6 +7,7 @@ ghost use Rattle.places.specs.Places.{Fits};
 ghost use Rattle.steps.specs.Lent.{runningAt, rowsAt, Supplied};
 ghost use Rattle.steps.specs.Turn.{turn as turnZ};
 use crate::common;
+use crate::each;
 use crate::sample;
 use leaving::emission;
 use path::structs::Fix;
@@ -48,8 +49,7 @@ pub fn turn(
     let last = (r + f.decisionDelay) % 40;
     let s = common::common(f, h.HarmShapeFIRPacked_Q14, b, ltp, shp, x, i);
     let ps = w.ps;
-    let at = f.base + i;
-    let t = sample::sample(ps, lpc, ring, own, f, h, a, ar, s, i, r0, r, last, at);
+    let t = sample::sample(ps, lpc, ring, own, f, h, a, ar, s, i, r0, r, last);
     let g = dgain[last];
     emission::emit(
         ltp,
@@ -64,6 +64,7 @@ pub fn turn(
         t.Shape_Q14,
         g,
     );
+    each::noted(own, ring, f.nStates, r, f.base + i);
     let g10 = shift::shr32(f.Gain_Q16, 6);
     dgain[r] = g10;
     let qs = t.ps;

@@ -8,7 +8,7 @@ use Rattle.steps.specs.Each.{moves, pairs}
 use mathlib.Core.List.{List}
 use lib.IntN.{ℤ}
 use Rattle.steps.specs.Among.{fullCopy}
-use Rattle.steps.specs.Carried.{swapFrom, copiedRow, pulsesNoted}
+use Rattle.steps.specs.Carried.{swapFrom, copiedRow}
 use Rattle.steps.specs.Settled.{settled, Settled}
 use Rattle.steps.specs.Sample.{sample, tried}
 use Rattle.paths.proofs.sample.sample.Statement.{statement}
@@ -33,8 +33,8 @@ returns c =
     let l = now (a .lpc) in
     let g = now (a .ring) in
     let from : Moves → Settled = λ m. settled fullCopy (pairs (a .f) (now (a .a)) (a .s) (a .i) (a .r0) m l g) n (a .i) (a .r) (a .last) (paths (m .owns) l g) in
-    let noted : Moves → List (List ℤ) = λ m. pulsesNoted n (a .g) (a .r) (c .settled .last .1 .1 .0) (copiedRow (swapFrom (pairs (a .f) (now (a .a)) (a .s) (a .i) (a .r0) m l g) g n (a .last)) (now (a .own))) in
-    (c .settled .ensures .0 ∙ rw (pp .pairs .ensures) (ap from (pm .moves .ensures)), c .settled .ensures .1 ∙ rw (pp .pairs .ensures) (ap noted (pm .moves .ensures)))
+    let copied : Moves → List (List ℤ) = λ m. copiedRow (swapFrom (pairs (a .f) (now (a .a)) (a .s) (a .i) (a .r0) m l g) g n (a .last)) (now (a .own)) in
+    (c .settled .ensures .0 ∙ rw (pp .pairs .ensures) (ap from (pm .moves .ensures)), c .settled .ensures .1 ∙ rw (pp .pairs .ensures) (ap copied (pm .moves .ensures)))
 
 pub sample-spec : {M : Type 1} → statement M
 sample-spec = tie.close (tie.spec moves-requires pairs-requires settled-requires returns)

@@ -1,6 +1,5 @@
 -- `paths::sample::settled` meets its contract. Assumes nothing.
 use mathlib.Core.Path.{_≡_, ap, _∙_}
-use native.Mathlib.Omega.{arith}
 use borrow.Author.Needs.{needs}
 use denote.Ref.{now}
 use Rattle.path.specs.Data.{Paths, paths}
@@ -27,26 +26,20 @@ replaced-requires c κs = search needs
 leaving-requires : tie.Need-leaving-requires
 leaving-requires c κs = search needs
 
-noted-requires : tie.Need-noted-requires
-noted-requires c κs =
-    let st = c .before .before .before .before .before .before .before .before .before .before .before .before .before .before in
-    omega (arith, st .pre)
-
 returns : tie.Need-returns
 unfolding settled replacing
 returns c =
-    let lv = c .before .before .before in
-    let pr = lv .before .before .before in
+    let pr = c .before .before .before in
     let po = pr .before .before .before .before in
     let ps = po .before in
     let pp = ps .before in
     let pl = pp .before .before in
     let a = pl .before .args in
     let leave : Paths → Settled = leaving (po .moved-over .result) (a .n) (a .i) (a .r) (a .last) (pl .least .result) in (
-      lv .leaving .ensures
+      c .leaving .ensures
           ∙ ap leave (pr .replaced .ensures .0 (a .i))
           ∙ simp (po .moved-over .ensures, ps .swap-of .ensures .0, pp .penalised .ensures, pl .least .ensures .0),
-      c .noted .ensures ∙ simp (pr .replaced .ensures .1, ps .swap-of .ensures .0, pp .penalised .ensures, pl .least .ensures .0),
+      pr .replaced .ensures .1 ∙ simp (ps .swap-of .ensures .0, pp .penalised .ensures, pl .least .ensures .0),
     )
 
 pub settled-spec : {M : Type 1} → statement M
@@ -59,5 +52,4 @@ settled-spec =
     moved-over-requires
     replaced-requires
     leaving-requires
-    noted-requires
     returns)

@@ -4,6 +4,8 @@ use Prim.Native.Nat.{ℕ, _+_, _-_}
 use native.Mathlib.Omega.{arith}
 use borrow.Author.Needs.{needs}
 use denote.Ref.{now}
+use mathlib.Core.List.{List}
+use lib.IntN.{ℤ}
 use lib.ListN.{set}
 use mir.Syntax.{w32}
 use Rattle.fixed.specs.Shift.{shr32}
@@ -12,6 +14,7 @@ use Rattle.path.specs.declared.structs.Common.{Common}
 use Rattle.fixed.specs.Row.{word}
 use Rattle.path.specs.Data.{Running, running, rows}
 use Rattle.steps.specs.Among.{fullCopy}
+use Rattle.steps.specs.Carried.{pulsesNoted}
 use Rattle.steps.specs.Settled.{Settled}
 use Rattle.path.proofs.Told.{sampled, fix, halves}
 use Rattle.steps.specs.Turn.{putAt}
@@ -31,18 +34,12 @@ add-last c = search needs
 common-requires : tie.Need-common-requires
 common-requires c κs = search needs
 
-add-at : tie.Need-add-at
-add-at c =
-    let st = c .before .before .before .before .before .before .before .before in
-    let fits = st .pre .0 .0 .frame in
-    record { fits = omega (arith, st .pre) }
-
 sample-requires : tie.Need-sample-requires
 sample-requires c κs =
-    let st = c .before .before .before .before .before .before .before .before .before .before .before in
+    let dn = c .before .before .before .before .before .before .before .before .before in
+    let st = dn .before in
     let fits = st .pre .0 .0 in
-    let dn = c .before .before .before .before .before .before .before .before .before .before .down in
-    omega (arith, st .pre, fits .some, fits .few, fits .order, fits .shaping, fits .shaping24, fits .short, fits .frame, dn .ensures .1)
+    omega (arith, st .pre, fits .some, fits .few, fits .order, fits .shaping, fits .shaping24, fits .short, dn .down .ensures .1)
 
 mul-g : tie.Need-mul-g
 mul-g c = search needs
@@ -53,27 +50,40 @@ element-copy-out-g c = search needs
 emit-requires : tie.Need-emit-requires
 emit-requires c κs =
     let g = c .before .before .before .before .before .before .before .before in
-    let st = g .before .before .before .before .before .before .before .before .before .before .before .before .before in
+    let st = g .before .before .before .before .before .before .before .before .before .before .before .before in
     (st .pre .0 .0, omega (arith, st .pre))
+
+add-noted : tie.Need-add-noted
+add-noted c =
+    let st = c .before .before .before .before .before .before .before .before .before .before .before .before .before .before .before .before .before .before .before .before .before .before .before .before .before in
+    let fits = st .pre .0 .0 in
+    record { fits = omega (arith, st .pre, fits .frame) }
+
+noted-requires : tie.Need-noted-requires
+noted-requires c κs =
+    let dn = c .before .before .before .before .before .before .before .before .before .before .before .before .before .before .before .before .before .before .before .before .before .before .before .before in
+    let st = dn .before in
+    let fits = st .pre .0 .0 in
+    omega (arith, st .pre, fits .few, fits .frame, dn .down .ensures .1)
 
 shr32-requires : tie.Need-shr32-requires
 shr32-requires c κs = search needs
 
 mul-g10 : tie.Need-mul-g10
 mul-g10 c =
-    let e = c .before .before .before in
+    let e = c .before .before .before .before .before .before .before in
     let g = e .before .before .before .before .before .before .before .before .before in
     let m = g .before in
-    let k = m .before .before .before .before .before .before in
+    let k = m .before .before .before .before .before in
     let n = k .before .before .before .before .before in
     omega (arith, n .down .ensures .1)
 
 element-set-from-g10 : tie.Need-element-set-from-g10
 element-set-from-g10 c =
-    let e = c .before .before .before in
+    let e = c .before .before .before .before .before .before .before in
     let g = e .before .before .before .before .before .before .before .before .before in
     let m = g .before in
-    let k = m .before .before .before .before .before .before in
+    let k = m .before .before .before .before .before in
     let n = k .before .before .before .before .before in
     omega (arith, n .down .ensures .1)
 
@@ -82,10 +92,11 @@ same-length c = search needs
 
 returns : tie.Need-returns
 returns c =
-    let e = c .before .before .before .before in
+    let nt = c .before .before .before in
+    let e = nt .before .before .before .before .before in
     let g = e .before .before .before .before .before .before .before .before .before in
     let m = g .before in
-    let k = m .before .before .before .before .before .before in
+    let k = m .before .before .before .before .before in
     let n = k .before .before .before .before .before in
     let a = n .before .args in
     let told = e .before .before .before .before in
@@ -111,7 +122,8 @@ returns c =
     ∙ ap (λ (j : ℕ). turnWith fullCopy (a .f) v (a .i) start j shared) (n .down .ensures .0)
     ∙ turn-is fullCopy (a .f) v (now (a .x)) (a .i) start in
     let carried = carry-is fullCopy (a .f) v (now (a .x)) (a .i) start _ (k .common .result) r (now (a .own)) whole o (n .down .ensures .0) in
-    rw q ((whole, n .down .ensures .1), m .sample .ensures .1 ∙ carried)
+    let noted : List (List ℤ) → List (List ℤ) = λ z. pulsesNoted (a .f .nStates) (a .f .base + a .i) r (m .sample .last .1 .1 .0) z in
+    rw q ((whole, n .down .ensures .1), nt .noted .ensures ∙ ap noted (m .sample .ensures .1) ∙ carried)
 
 pub turn-spec : {M : Type 1} → statement M
 turn-spec =
@@ -120,11 +132,12 @@ turn-spec =
     down-requires
     add-last
     common-requires
-    add-at
     sample-requires
     mul-g
     element-copy-out-g
     emit-requires
+    add-noted
+    noted-requires
     shr32-requires
     mul-g10
     element-set-from-g10
