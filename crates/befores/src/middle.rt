@@ -24,7 +24,9 @@ fn middle(
     gain: i32,
 ) -> Work
     requires { ⌜ (((0 < n) × (n ≤ 4)) × ((d ≤ 2 * l) × (4 * l + 2 * l ≤ 640))) × ((2 * l ≤ length (now pulses)) × (w .«smpl_buf_idx» < 40)) ⌝ }
-    ensures { λ r. ⌜ ((lpcs : List (List ℤ)) (ltp dgain : List ℤ) → running r lpcs (now (ring .entry)) ltp dgain (now (xq .exit)) (now (shp .exit)) (now (pulses .exit)) ≡ middleBy n l d gain (running w lpcs (now (ring .entry)) ltp dgain (now (xq .entry)) (now (shp .entry)) (now (pulses .entry)))) × (r .«smpl_buf_idx» ≡ w .«smpl_buf_idx») ⌝ }
+    ensures { λ r. ⌜ ((lpcs : List (List ℤ)) (ltp dgain : List ℤ)
+        → running r lpcs (now (ring .entry)) ltp dgain (now (xq .exit)) (now (shp .exit)) (now (pulses .exit))
+        ≡ middleBy n l d gain (running w lpcs (now (ring .entry)) ltp dgain (now (xq .entry)) (now (shp .entry)) (now (pulses .entry)))) × (r .«smpl_buf_idx» ≡ w .«smpl_buf_idx») ⌝ }
 {
     let ps = w.ps;
     let r = w.smpl_buf_idx;
@@ -50,7 +52,9 @@ pub fn flushed_first(
     gain1: i32,
 ) -> Work
     requires { ⌜ (Fits f × (f .decisionDelay ≤ 2 * f .«subfr_length»)) × ((2 * f .«subfr_length» ≤ length (now pulses)) × (w .«smpl_buf_idx» < 40)) ⌝ }
-    ensures { λ r. ⌜ ((lpcs : List (List ℤ)) (ltp dgain : List ℤ) → running r lpcs (now (ring .entry)) ltp dgain (now (xq .exit)) (now (shp .exit)) (now (pulses .exit)) ≡ flushedFirst again f gain1 (running w lpcs (now (ring .entry)) ltp dgain (now (xq .entry)) (now (shp .entry)) (now (pulses .entry)))) × (r .«smpl_buf_idx» ≡ w .«smpl_buf_idx») ⌝ }
+    ensures { λ r. ⌜ ((lpcs : List (List ℤ)) (ltp dgain : List ℤ)
+        → running r lpcs (now (ring .entry)) ltp dgain (now (xq .exit)) (now (shp .exit)) (now (pulses .exit))
+        ≡ flushedFirst again f gain1 (running w lpcs (now (ring .entry)) ltp dgain (now (xq .entry)) (now (shp .entry)) (now (pulses .entry)))) × (r .«smpl_buf_idx» ≡ w .«smpl_buf_idx») ⌝ }
 {
     if again {
         let n = f.nStates;

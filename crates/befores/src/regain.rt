@@ -23,7 +23,8 @@ pub fn regained(
     prev: i32,
 ) -> Work
     requires { ⌜ Fits f × ((pos 1 ≤ℤ prev) × (pos 1 ≤ℤ f .«Gain_Q16»)) ⌝ }
-    ensures { λ r. ⌜ ((dgain xq out : List ℤ) → running r (now (lpc .exit)) (now (ring .exit)) (now (ltp .exit)) dgain xq (now (shp .exit)) out ≡ regainedZ f rewhitened prev (running w (now (lpc .entry)) (now (ring .entry)) (now (ltp .entry)) dgain xq (now (shp .entry)) out)) × (r .«smpl_buf_idx» ≡ w .«smpl_buf_idx») ⌝ }
+    ensures { λ r. ⌜ ((dgain xq out : List ℤ) → running r (now (lpc .exit)) (now (ring .exit)) (now (ltp .exit)) dgain xq (now (shp .exit)) out
+        ≡ regainedZ f rewhitened prev (running w (now (lpc .entry)) (now (ring .entry)) (now (ltp .entry)) dgain xq (now (shp .entry)) out)) × (r .«smpl_buf_idx» ≡ w .«smpl_buf_idx») ⌝ }
 {
     if f.Gain_Q16 == prev {
         return w;
