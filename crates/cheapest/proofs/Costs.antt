@@ -1,4 +1,4 @@
--- Document 01's cost at a Lambda from 0 to 32767: it is the floor of a natural number, in the order of these. Assumes nothing.
+-- The cost of docs/RULES.md at a Lambda from 0 to 32767: it is the floor of a natural number, in the order of these. Assumes nothing.
 use Prim.Native.Nat.{ℕ, _*_, _≤_}
 use native.Mathlib.Omega.{arith}
 use mathlib.Core.Path.{_≡_, refl}

@@ -59,7 +59,7 @@ chosenIn e =
 abbrev pub costsIn : Example → List ℤ
 costsIn e = map (pulseCost (e .residual) (e .Lambda) (e .offset)) (e .first .pulse ∷ e .second .pulse ∷ e .other .pulse ∷ [])
 
--- all five rows: of document 01's rule, of the Rust's steps, and the costs of the three pulses
+-- all five rows: of the rule of docs/RULES.md, of the Rust's steps, and the costs of the three pulses
 pub edge-examples :
     (map (λ e. ruled (e .residual) (e .Lambda) (e .offset)) edge ≡ map chosenIn edge)
     × (map (λ e. choice (e .residual) (e .Lambda) (e .offset)) edge ≡ map chosenIn edge)

@@ -1,4 +1,4 @@
--- Where the two candidates stand: the residual leaves room enough on either side of them, by document 01's plain floor for Lambda up to 1104 and by its
+-- Where the two candidates stand: the residual leaves room enough on either side of them, by the rule's plain floor for Lambda up to 1104 and by its
 -- rounding towards zero for Lambda from 2049 on. Assumes nothing.
 use Prim.Native.Nat.{ℕ, zero, suc, _+_, _*_, _/_, _≤_, _<_}
 use native.Mathlib.Omega.{arith}

@@ -1,4 +1,4 @@
--- Looking at two candidates loses nothing, for Lambda from 0 to 1104 (request E10) and from 2049 on: of document 01's rule, of the Rust's choice, of a
+-- Looking at two candidates loses nothing, for Lambda from 0 to 1104 (request E10) and from 2049 on: of the rule of docs/RULES.md, of the Rust's choice, of a
 -- sample, and of a path's first candidate. With each Lambda in between something is lost (Edge.antt). Assumes nothing.
 use Prim.Native.Nat.{ℕ, _+_, _≤_, _<_}
 use native.Mathlib.Omega.{arith}
@@ -30,7 +30,7 @@ use Rattle.cheapest.proofs.Levels.{nearest-below, nearest-above}
 use Rattle.cheapest.proofs.Costs.{fair-plain, lambda-word, pulse-is, cost-keeps}
 use Rattle.cheapest.proofs.Pairs.{Room, lower-room}
 
--- ---- document 01's rule
+-- ---- the rule of docs/RULES.md
 -- where every pulse costs at least as much as p or as s, the cheaper of these two is the cheapest of all
 ordered-cheapest : (r Lambda o p s : ℤ)
     → ((k : ℤ) → (pulseCost r Lambda o p ≤ℤ pulseCost r Lambda o k) ⊎ (pulseCost r Lambda o s ≤ℤ pulseCost r Lambda o k))
@@ -73,7 +73,7 @@ module _ (r Lambda o : ℤ) (fair : FairLambda Lambda) (small : SmallOffset o) w
       let c = le-lin (small .high) in
       inl (cost-keeps r Lambda o lo p (fair-plain fair) (nearest-below (P Lambda) r o (omega arith) lo p (m .t) (omega arith) (m .below) (omega arith)))
 
-  -- document 01's rule, for every residual
+  -- the rule of docs/RULES.md, for every residual
   pub rule-cheapest : Cheapest r Lambda o (ruled r Lambda o)
   unfolding ruled between
   rule-cheapest =

@@ -1,4 +1,4 @@
--- Request E10: what it means that looking at two candidates loses nothing. Levels and costs are document 01's, "One sample" (`choice`,
+-- Request E10: what it means that looking at two candidates loses nothing. Levels and costs are those of docs/RULES.md, "One sample" (`choice`,
 -- specs/RuleChoice.antt), over the whole numbers, where nothing wraps; a pulse number is any whole number, however far away.
 -- Assumes nothing.
 use Prim.Native.Nat.{ℕ, suc}
@@ -12,7 +12,7 @@ use Rattle.choice.specs.RuleChoice.{levelOf, costOf, ruled}
 use Rattle.path.specs.declared.structs.Candidate.{Candidate}
 
 -- ---- what a pulse costs
--- pulse number p at the residual r, whether it is looked at or not: document 01's cost of its level
+-- pulse number p at the residual r, whether it is looked at or not: the cost of its level
 unfoldable pub pulseCost : ℤ → ℤ → ℤ → ℤ → ℤ
 pulseCost r Lambda offset p = costOf Lambda r (levelOf offset p)
 
@@ -30,7 +30,7 @@ pub record CheapestOf (r Lambda offset rd : ℤ) (c : Candidate) : Type 0 where
   pub total : c .«RD_Q10» ≡ wrap32 (rd +ℤ pulseCost r Lambda offset pulse)
   pub least : (p : ℤ) → pulseCost r Lambda offset pulse ≤ℤ pulseCost r Lambda offset p
 
--- nothing is lost with this Lambda at this offset: document 01's rule, at each clamped residual
+-- nothing is lost with this Lambda at this offset: by the rule, at each clamped residual
 abbrev pub NothingLost : ℤ → ℤ → Type 0
 NothingLost Lambda offset = (r : ℤ) → negsuc 31743 ≤ℤ r → r ≤ℤ pos 30720 → Cheapest r Lambda offset (ruled r Lambda offset)
 
@@ -48,7 +48,7 @@ greatestModest = 1104
 abbrev pub ModestLambda : ℤ → Type 0
 ModestLambda = LambdaIn 0 greatestModest
 
--- those next to them, up to where document 01's lower candidate is a plain floor: with each of these something is lost
+-- those next to them, up to where the rule's lower candidate is a plain floor: with each of these something is lost
 abbrev pub LossyLambda : ℤ → Type 0
 LossyLambda = LambdaIn (suc greatestModest) 2048
 

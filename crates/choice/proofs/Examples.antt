@@ -1,4 +1,4 @@
--- Document 01's marked examples, its slip about the clamp, and the ends of the ranges, by computation.
+-- The marked examples of docs/RULES.md, its slip about the clamp, and the ends of the ranges, by computation.
 -- Assumes nothing.
 use mathlib.Core.Path.{_≡_, refl}
 use mathlib.Core.List.{List, [], _∷_, map}
@@ -25,7 +25,7 @@ abbrev row : ℤ → ℤ → ℤ → ℤ → ℤ → ℤ → ℤ → Example
 row r l o q1 c1 q2 c2 =
     record { residual = r; Lambda = l; offset = o; candidates = record { «first_level» = q1; «first_cost» = c1; «second_level» = q2; «second_cost» = c2 } }
 
--- document 01, "Marked examples"
+-- docs/RULES.md, "Marked examples"
 abbrev pub marked : List Example
 marked =
     row (pos 0) (pos 0) (pos 100) (pos 100) (pos 9) (negsuc 843) (pos 695)
@@ -38,7 +38,7 @@ marked =
     ∷ row (pos 1124) (pos 32768) (pos 100) (pos 1044) (negsuc 33401) (pos 100) (negsuc 2175)
     ∷ []
 
--- all eight rows: what the Rust's steps give, and what document 01's rule gives, is what the table says
+-- all eight rows: what the Rust's steps give, and what the rule gives, is what the table says
 pub marked-examples :
     (map (λ e. choice (e .residual) (e .Lambda) (e .offset)) marked ≡ map (λ e. e .candidates) marked)
     × (map (λ e. ruled (e .residual) (e .Lambda) (e .offset)) marked ≡ map (λ e. e .candidates) marked)

@@ -1,4 +1,4 @@
--- The Rust's steps and document 01's rule are the same choice, for every residual and offset in range and every Lambda.
+-- The Rust's steps and the rule of docs/RULES.md are the same choice, for every residual and offset in range and every Lambda.
 -- Assumes nothing.
 use Prim.Native.Nat.{zero, suc, _+_, _*_, _≤_, _<_}
 use native.Mathlib.Omega.{arith}
@@ -137,7 +137,7 @@ module _ (r Lambda o : ℤ) (h : InRange r o) where
   unfolding withNoise costOf costSum smlabb smulbb shr32 shr
   cost-exact v f = rw (wrap32-id (fit16-32 (f .error)), wrap16-id (f .error), wrap32-id (f .sum))
 
--- the choice of the Rust's steps is that of document 01's rule
+-- the choice of the Rust's steps is that of the rule
 pub choice-is-rule : (r Lambda o : ℤ) → InRange r o → SFits w32 Lambda → choice r Lambda o ≡ ruled r Lambda o
 unfolding choice costed ruled between
 choice-is-rule r Lambda o h f =

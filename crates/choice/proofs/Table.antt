@@ -75,7 +75,7 @@ module _ (seed r Lambda : ℤ) (signalType offsetType : ℕ) (type : signalType 
   there : InRange (signedResidual seed r) (offsetOf signalType offsetType)
   there = sample-in-range seed r signalType offsetType type kind
 
-  -- the choice is document 01's
+  -- the choice is the rule's
   pub sample-is-rule : choice (signedResidual seed r) Lambda (offsetOf signalType offsetType) ≡ ruled (signedResidual seed r) Lambda (offsetOf signalType offsetType)
   sample-is-rule = choice-is-rule _ _ _ there word
 

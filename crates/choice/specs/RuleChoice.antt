@@ -1,4 +1,4 @@
--- The candidate choice as document 01 words it, "One sample", from Level to Cost: on whole numbers, where nothing wraps. Only Lambda is
+-- The candidate choice as docs/RULES.md words it, "One sample", the two candidates: on whole numbers, where nothing wraps. Only Lambda is
 -- read `as i16` in the cost. The value of `shrZ z 1024` is floor(z / 1024).
 -- Assumes nothing.
 use Prim.Native.Nat.{zero, suc}

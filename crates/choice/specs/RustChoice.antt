@@ -1,6 +1,6 @@
 -- The candidate choice as the Rust makes it: NSQ_del_dec.rs, silk_noise_shape_quantizer_del_dec, from `q1_Q10 = r_Q10 - offset_Q10`
 -- to the order of the two candidates. Each step wraps as the release build does, and `as i16` stands where the Rust has it
--- (`smlabb` multiplies low halves). RuleChoice has document 01's words for the same; the two are proved equal.
+-- (`smlabb` multiplies low halves). RuleChoice has the words of docs/RULES.md for the same; the two are proved equal.
 -- Assumes nothing.
 use lib.IntN.{ℤ, _-ℤ_}
 use lib.Signed.{ltZ}

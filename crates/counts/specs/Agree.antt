@@ -1,4 +1,4 @@
--- What counts of a call, and what of a state: document 01, "What counts", item by item and in its order. `Agree` asks that two calls are equal in
+-- What counts of a call, and what of a state: docs/RULES.md, "What counts", item by item and in its order. `Agree` asks that two calls are equal in
 -- everything that is given, but for what that list takes out; nothing is cleared, cut or defaulted first. Assumes nothing.
 use Prim.Native.Nat.{ℕ, _+_, _*_, _<_}
 use mathlib.Core.Path.{_≡_}

@@ -76,7 +76,7 @@ pub sat16-between : (z : ℤ) → Between 32768 32767 (sat16 z)
 unfolding sat16
 sat16-between z = clamp-between 32768 32767 z
 
--- the residual, held to document 01's range
+-- the residual, held to its range (docs/RULES.md, "One sample")
 pub residual-between : (z : ℤ) → Between 31744 30720 (clamp (negsuc 31743) (pos 30720) z)
 residual-between z = clamp-between 31744 30720 z
 

@@ -21,7 +21,7 @@ shl32 z s = wrap32 (z *ℤ pos (2 ^ (s % 32)))
 unfoldable pub shr32 : ℤ → ℕ → ℤ
 shr32 z s = shr z (s % 32)
 
--- document 01's rounded shift by s: ((z >> (s - 1)) + 1) >> 1
+-- the rounded shift by s (docs/RULES.md, "Arithmetic"): ((z >> (s - 1)) + 1) >> 1
 unfoldable pub rround : ℤ → ℕ → ℤ
 rround z s = shr (shr z (s - 1) +ℤ pos 1) 1
 

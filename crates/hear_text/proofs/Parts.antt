@@ -1,20 +1,17 @@
 -- The parts of the text, as the code puts them together. Assumes nothing.
 use mathlib.Core.Path.{_≡_, refl, sym, ap, _∙_}
 use mathlib.Core.List.{List, [], _∷_}
-use Prim.Native.Nat.{ℕ, zero, suc, _-_, _≤_}
-use native.Mathlib.Omega.{arith}
-use lib.ListN.{length, take, replicate}
-use lib.Seq.{take-append-seam}
+use Prim.Native.Nat.{ℕ}
+use lib.ListN.{length, take}
 use lib.IntN.{ℤ, pos}
 use borrow.Author.Tests.{ne-eqb}
-use Rattle.silk.specs.State.{zeros}
 use Rattle.pages.specs.Page.{Page, puts}
 use Rattle.pages.proofs.Pages.{puts-append}
 use Rattle.sheet_form.specs.Sections.{fault, sheet, triple, row, i8, after}
-use Rattle.sheet_form.specs.Rows.{Rest, takeSection, row32, padded}
+use Rattle.sheet_form.specs.Rows.{Rest, takeSection, row32}
 use Rattle.sheet_form.specs.Sheets.{startRest, endOf}
 use Rattle.sheet_form.specs.declared.rows.Row32.{Row32}
-use Rattle.sheet_form.proofs.Fitting.{padded-at}
+use Rattle.sheet_form.proofs.Fitting.{padded-at, padded-first}
 use Rattle.sheet_form.proofs.Whole.{from, from-first, from-step, from-end}
 use Rattle.sheet_text.specs.Text.{lineOf, answerWord, pulseLines, faultText}
 use Rattle.hear_text.specs.Heard.{form, found, answerText, sectionsText, textOf, hearText}
@@ -28,21 +25,6 @@ values-puts number values p e = rw e (sym (puts-append (lineOf answerWord (pos 0
 pub number-puts : (number : ℕ) (values : List ℤ) (p : Page) → (number ≡ 0 → ⊥) → puts (lineOf answerWord (pos number)) p ≡ puts (answerText number values) p
 unfolding answerText puts
 number-puts number values p h = rw (ne-eqb number 0 h) (sym (puts-append (lineOf answerWord (pos number)) [] p))
-
--- ---- rows
-take-zeros : (n m : ℕ) → n ≤ m → take n (replicate m (pos 0)) ≡ replicate n (pos 0)
-take-zeros zero m h = refl
-take-zeros (suc n) zero h = absurd (omega arith)
-take-zeros (suc n) (suc m) h = ap (λ (zs : List ℤ). pos 0 ∷ zs) (take-zeros n m (omega arith))
-
--- the first zeros of the row that is lent
-pub zeros-first : (n : ℕ) → n ≤ 320 → take n (zeros 320) ≡ zeros n
-unfolding zeros
-zeros-first n h = take-zeros n 320 h
-
-padded-first : (zs : List ℤ) → take (length zs) (padded zs) ≡ zs
-unfolding padded
-padded-first zs = take-append-seam zs (zeros (320 - length zs))
 
 -- ---- the two sections one after the other
 module _ (ρ0 ρ1 ρ2 : Rest) (e1 : ρ1 ≡ takeSection triple 1 ρ0 .rest) (e2 : ρ2 ≡ takeSection (row i8) 2 ρ1 .rest) where
@@ -59,9 +41,13 @@ module _ (ρ0 ρ1 ρ2 : Rest) (e1 : ρ1 ≡ takeSection triple 1 ρ0 .rest) (e2 
   two-good e = two ∙ rw e
 
   module _ (s : List ℕ) (e0 : ρ0 ≡ startRest s) where
-    pub by-form : hearText s ≡ textOf (from form 1 ρ0)
-    unfolding hearText found
-    by-form = ap textOf (from-first form s ∙ ap (from form 1) (sym e0))
+    pub by-sections : found s ≡ from form 1 ρ0
+    unfolding found
+    by-sections = from-first form s ∙ ap (from form 1) (sym e0)
+
+    by-form : hearText s ≡ textOf (from form 1 ρ0)
+    unfolding hearText
+    by-form = ap textOf by-sections
 
     -- the text of a fault
     pub text-fault : (k : ℕ) → endOf 3 ρ2 ≡ fault k → faultText k ≡ hearText s

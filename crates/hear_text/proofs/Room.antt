@@ -1,15 +1,11 @@
--- How long a text can be: at most 2249 bytes, so that a page of 4096 holds the whole of it. Assumes nothing.
-use mathlib.Core.Path.{_≡_, refl, _∙_}
+-- How long a text can be: at most 2254 bytes, so that a page of 4096 holds the whole of it. Assumes nothing.
+use mathlib.Core.Path.{_≡_, refl, _∙_, subst}
 use mathlib.Core.Bool.{Bool, true, false}
 use mathlib.Core.List.{List, [], _∷_, _++_}
-use Prim.Native.Nat.{ℕ, zero, suc, _+_, _*_, _/_, _^_, _≤_, _<_}
+use Prim.Native.Nat.{ℕ, zero, suc, _+_, _≤_, _<_}
 use native.Mathlib.Omega.{arith}
-use native.Mathlib.Decide.{decLt}
-use native.Mathlib.Numerals.{add-one}
-use lib.ListN.{length, getD, take, drop, length-append}
-use lib.Seq.{take-append-seam}
+use lib.ListN.{length, getD, take, length-append}
 use lib.IntN.{ℤ, pos, negsuc, negℤ}
-use lib.Dec.{eqb, ltb}
 use borrow.Author.Tests.{ne-eqb}
 use denote.Ref.{now}
 use mir.Syntax.{w8}
@@ -20,55 +16,23 @@ use Rattle.silk.specs.State.{zeros}
 use Rattle.limits.specs.Count.{natZ}
 use Rattle.rfc6716.specs.Excitation.{«offset_Q23», value, nextSeed, signed, negates, pulse, turn, excitation}
 use Rattle.choice.proofs.Rfc.{value-lin, sign-size}
-use Rattle.pages.specs.Page.{page, puts}
-use Rattle.pages.specs.Decimal.{digits, decimal}
-use Rattle.pages.proofs.Digits.{digits-one, digits-more, tenth}
-use Rattle.pages.proofs.Pages.{puts-first}
-use Rattle.pages.proofs.Unique.{parts}
-use Rattle.sheet_words.specs.Number.{Read, got, bad, run, separator}
-use Rattle.sheet_form.specs.Sections.{Kind, Reading, fault, sheet, triple, row, i8, after, ended, section}
-use Rattle.sheet_form.specs.Rows.{Rest, left, stopped, taken, takeSection}
+use Rattle.pages.proofs.Pages.{puts-leaves}
+use Rattle.sheet_form.specs.Sections.{Reading, fault, sheet, triple, row, i8, after}
+use Rattle.sheet_form.specs.Rows.{takeSection}
 use Rattle.sheet_form.specs.Sheets.{startRest, endOf}
 use Rattle.sheet_form.proofs.Fitting.{bytes-section-fits}
-use Rattle.sheet_text.specs.Text.{lineOf, answerWord, pulseLines, faultText}
+use Rattle.sheet_form.proofs.Faults.{FaultMost, found-most}
+use Rattle.sheet_text.specs.Text.{lineOf, answerWord, pulseLines}
+use Rattle.sheet_text.proofs.Short.{Small, AllSmall, line-short, lines-short, fault-short}
 use Rattle.excitation.specs.declared.answer.Answer.{Answer}
 use Rattle.excitation.specs.declared.answer.Answer.the-variants.{Accepted, Seeds, Kinds, Rows}
 use Rattle.excitation.specs.Code.{codeOf}
 use Rattle.excitation.specs.Refused.{answerOf}
 use Rattle.excitation.specs.Reading.{heardRow, heardBy, reading}
 use Rattle.excitation.proofs.Accepted.{accepted-good}
-use Rattle.hear_text.specs.Heard.{answerText, heardText, callText, sectionsText, textOf, hearText}
-use Rattle.hear_text.proofs.Parts.{by-form, two}
+use Rattle.hear_text.specs.Heard.{form, found, answerText, heardText, callText, sectionsText, textOf, hearText}
+use Rattle.hear_text.proofs.Parts.{by-sections, two}
 use Rattle.hear_text.proofs.hear.hear.Reads as hear
-
--- ---- decimal numbers
-digits-by : (k n : ℕ) → Dec (n < 10) → (10 ≤ n → length (digits (n / 10)) ≤ k) → length (digits n) ≤ suc k
-digits-by k n (yes l) h = rw (digits-one n l) (omega arith)
-digits-by k n (no l) h = let m : 10 ≤ n = omega arith in rw (digits-more n m, length-append (digits (n / 10)) _) (omega (arith, h m))
-
--- a number below 10 to the k has no more than k digits
-digits-short : (k n : ℕ) → n < 10 ^ (k + 1) → length (digits n) ≤ suc k
-digits-short zero n h = digits-by zero n (decLt n 10) (λ m. absurd (omega arith))
-digits-short (suc k) n h = digits-by (suc k) n (decLt n 10) (λ m. digits-short k (n / 10) (rw (add-one k) (tenth (suc k) n h)))
-
--- smaller than 100000 in size
-abbrev Small : ℤ → Type 0
-Small z = P z + N z < 100000
-
-decimal-short : (z : ℤ) → Small z → length (decimal z) ≤ 6
-unfolding decimal
-decimal-short (pos n) h = omega (arith, digits-short 4 n (omega arith))
-decimal-short (negsuc n) h = omega (arith, digits-short 4 (suc n) (omega arith))
-
--- ---- lines of values
-abbrev AllSmall : List ℤ → Type 0
-AllSmall [] = Unit {0}
-AllSmall (z ∷ zs) = Small z × AllSmall zs
-
-lines-short : (n i : ℕ) (zs : List ℤ) → AllSmall zs → length (pulseLines n i zs) ≤ 7 * length zs
-unfolding pulseLines
-lines-short n i [] h = omega arith
-lines-short n i (z ∷ zs) h = rw (length-append (decimal z) _) (omega (arith, decimal-short z (h .0), lines-short n (suc i) zs (h .1)))
 
 -- ---- the values
 all-more : (zs : List ℤ) (z : ℤ) → AllSmall zs → Small z → AllSmall (zs ++ (z ∷ []))
@@ -122,95 +86,50 @@ unfolding heardRow excitation
 row-small seed signalType offsetType pulses fits =
     turns («offset_Q23» (natZ signalType) (natZ offsetType)) (offset-most (natZ signalType) (natZ offsetType)) pulses fits (length pulses) (natZ seed)
 
--- ---- the text of a call: a line of 9 bytes, and after number 0 at most 320 values of 7 bytes with what follows each
-line-short : (number : ℕ) → number < 10 → length (lineOf answerWord (pos number)) ≡ 9
-unfolding lineOf decimal
-line-short number h = rw (digits-one number h)
-
-answer-short : (number : ℕ) (values : List ℤ) → number < 10 → (number ≡ 0 → (length values ≤ 320) × AllSmall values) → length (answerText number values) ≤ 2249
+-- ---- the text of a call: its line, and after number 0 at most 320 values of 7 bytes with what follows each
+answer-most : (number : ℕ) (values : List ℤ) → number < 10 → (number ≡ 0 → (length values ≤ 320) × AllSmall values) → length (answerText number values) ≤ 2254
 unfolding answerText
-answer-short zero values h k =
+answer-most zero values h k =
     let v = k refl in
-    rw (length-append (lineOf answerWord (pos 0)) _) (omega (arith, line-short 0 h, lines-short (length values) 0 values (v .1), v .0))
-answer-short (suc n) values h k = rw (ne-eqb (suc n) 0 (λ e. omega arith), length-append (lineOf answerWord (pos (suc n))) []) (omega (arith, line-short (suc n) h))
+    rw (length-append (lineOf answerWord (pos 0)) _) (omega (arith, line-short answerWord (pos 0) (omega arith), lines-short (length values) 0 values (v .1), v .0))
+answer-most (suc n) values h k =
+    rw (ne-eqb (suc n) 0 (λ e. omega arith), length-append (lineOf answerWord (pos (suc n))) []) (omega (arith, line-short answerWord (pos (suc n)) (omega arith)))
 
-heard-short : (a : Answer) (values lent : List ℤ) → (codeOf a ≡ 0 → (length values ≤ 320) × AllSmall values) → length (heardText (heardBy a values lent)) ≤ 2249
+heard-short : (a : Answer) (values lent : List ℤ) → (codeOf a ≡ 0 → (length values ≤ 320) × AllSmall values) → length (heardText (heardBy a values lent)) ≤ 2254
 unfolding heardText heardBy
-heard-short Accepted values lent h = answer-short 0 values (omega arith) h
-heard-short Seeds values lent h = answer-short 1 lent (omega arith) (λ e. absurd (omega arith))
-heard-short Kinds values lent h = answer-short 2 lent (omega arith) (λ e. absurd (omega arith))
-heard-short Rows values lent h = answer-short 3 lent (omega arith) (λ e. absurd (omega arith))
+heard-short Accepted values lent h = answer-most 0 values (omega arith) h
+heard-short Seeds values lent h = answer-most 1 lent (omega arith) (λ e. absurd (omega arith))
+heard-short Kinds values lent h = answer-most 2 lent (omega arith) (λ e. absurd (omega arith))
+heard-short Rows values lent h = answer-most 3 lent (omega arith) (λ e. absurd (omega arith))
 
-call-short : (seed signalType offsetType : ℤ) (pulses : List ℤ) → ((i : ℕ) → SFits w8 (getD pulses i (pos 0))) → length (callText seed signalType offsetType pulses) ≤ 2249
+call-short : (seed signalType offsetType : ℤ) (pulses : List ℤ) → ((i : ℕ) → SFits w8 (getD pulses i (pos 0))) → length (callText seed signalType offsetType pulses) ≤ 2254
 unfolding callText reading
 call-short seed signalType offsetType pulses fits =
     let r = row-small seed signalType offsetType pulses fits in
     heard-short (answerOf seed signalType offsetType (length pulses) (length (zeros (length pulses)))) _ _
     (λ e. (omega (arith, r .0, accepted-good seed signalType offsetType (length pulses) (length (zeros (length pulses))) e .most), r .1))
 
--- ---- the number of a fault is at most 3
-abbrev Stop : Rest → Type 0
-Stop (left s) = Unit {0}
-Stop (stopped k) = k ≤ 3
-
-abbrev Fault : Reading → Type 0
-Fault (fault k) = k ≤ 3
-Fault (sheet rows) = Unit {0}
-
-start-either : (b : Bool) (s : List ℕ) → Stop (either b (stopped 0) (left s))
-start-either true s = omega arith
-start-either false s = tt
-
-start-stop : (s : List ℕ) → Stop (startRest s)
-unfolding startRest
-start-stop s = start-either (ltb 65536 (length s)) s
-
-taken-stop : (k : ℕ) (m : Read (List ℤ)) → k ≤ 3 → Stop (taken k m .rest)
-unfolding taken
-taken-stop k (got zs s) h = tt
-taken-stop k bad h = h
-
-section-stop : (kind : Kind) (k : ℕ) (ρ : Rest) → k ≤ 3 → Stop ρ → Stop (takeSection kind k ρ .rest)
-unfolding takeSection
-section-stop kind k (left s) h p = taken-stop k (section kind s) h
-section-stop kind k (stopped j) h p = p
-
-end-either : (b : Bool) → Fault (either b (sheet []) (fault 3))
-end-either true = tt
-end-either false = omega arith
-
-end-fault : (ρ : Rest) → Stop ρ → Fault (endOf 3 ρ)
-unfolding endOf ended
-end-fault (left s) p = end-either (eqb (run separator s) (length s))
-end-fault (stopped k) p = p
-
-fault-short : (k : ℕ) → k ≤ 3 → length (faultText k) ≤ 2249
-unfolding faultText lineOf decimal
-fault-short k h = rw (digits-one k (omega arith)) (omega arith)
-
 -- ---- every text
-text-short : (three pulses : List ℤ) (m : Reading) → Fault m → ((i : ℕ) → SFits w8 (getD pulses i (pos 0))) → length (textOf (after three (after pulses m))) ≤ 2249
+text-short : (three pulses : List ℤ) (m : Reading) → FaultMost 3 (after three (after pulses m)) → ((i : ℕ) → SFits w8 (getD pulses i (pos 0))) → length (textOf (after three (after pulses m))) ≤ 2254
 unfolding textOf after sectionsText
-text-short three pulses (fault k) p fits = fault-short k p
+text-short three pulses (fault k) p fits = omega (arith, fault-short k (omega arith))
 text-short three pulses (sheet rows) p fits = call-short (getD three 0 (pos 0)) (getD three 1 (pos 0)) (getD three 2 (pos 0)) pulses fits
 
--- no text is longer than 9 bytes for the answer's line and 7 for each of 320 values
-pub text-most : (s : List ℕ) → length (hearText s) ≤ 2249
+found-fault : (s : List ℕ) → FaultMost 3 (found s)
+unfolding found form
+found-fault s = found-most 3 form s (omega arith)
+
+-- no text is longer than 14 bytes for the answer's line and 7 for each of 320 values
+pub text-most : (s : List ℕ) → length (hearText s) ≤ 2254
+unfolding hearText
 text-most s =
     let ρ0 = startRest s in
     let ρ1 = takeSection triple 1 ρ0 .rest in
     let ρ2 = takeSection (row i8) 2 ρ1 .rest in
-    let stop = section-stop (row i8) 2 ρ1 (omega arith) (section-stop triple 1 ρ0 (omega arith) (start-stop s)) in
-    rw (by-form ρ0 ρ1 ρ2 refl refl s refl, two ρ0 ρ1 ρ2 refl refl)
-    (text-short (takeSection triple 1 ρ0 .row) (takeSection (row i8) 2 ρ1 .row) (endOf 3 ρ2) (end-fault ρ2 stop) (bytes-section-fits 2 ρ1))
+    let m = after (takeSection triple 1 ρ0 .row) (after (takeSection (row i8) 2 ρ1 .row) (endOf 3 ρ2)) in
+    let e : found s ≡ m = by-sections ρ0 ρ1 ρ2 refl refl s refl ∙ two ρ0 ρ1 ρ2 refl refl in
+    rw e (text-short (takeSection triple 1 ρ0 .row) (takeSection (row i8) 2 ρ1 .row) (endOf 3 ρ2) (subst (FaultMost 3) e (found-fault s)) (bytes-section-fits 2 ρ1))
 
--- a page of 4096 bytes has room for it: all bytes are put, from the page's start on, and the count is theirs
-pub text-room : (s out : List ℕ) → length out ≡ 4096 → puts (hearText s) (page 0 out) ≡ page (length (hearText s)) (hearText s ++ drop (length (hearText s)) out)
-text-room s out e = puts-first (hearText s) out (omega (arith, text-most s))
-
--- .. which is what the contract leaves there: of such a page the first bytes, as many as the code's count says, are the text
+-- so a page of 4096 bytes holds it: of what the contract leaves there the first bytes, as many as the code's count says, are the text
 pub hear-leaves : (κs a r e : _) → hear.Post κs a r e → length (now (a .1 .0)) ≡ 4096 → take r (now (e .1 .0)) ≡ hearText (now (a .0))
-hear-leaves κs a r e p l =
-    let s = hearText (now (a .0)) in
-    let same = parts r (length s) _ _ (p ∙ text-room (now (a .0)) (now (a .1 .0)) l) in
-    rw (same .0, same .1) (take-append-seam s _)
+hear-leaves κs a r e p l = puts-leaves (hearText (now (a .0))) (now (a .1 .0)) (now (e .1 .0)) r p (omega (arith, text-most (now (a .0))))

@@ -1,5 +1,5 @@
--- The text of the program `hear` for every input, byte for byte. The input is a sheet of two sections, in the words of a call sheet (document
--- 01, "The call sheet"); its faults are numbered and printed as there. Assumes nothing.
+-- The text of the program `hear` for every input, byte for byte. The input is a sheet of two sections, in the words of a call sheet
+-- (docs/RULES.md, "The sheet of `hear`"); its faults are numbered and printed as there. Assumes nothing.
 use Prim.Native.Nat.{ℕ}
 use mathlib.Core.List.{List, [], _∷_, _++_}
 use lib.ListN.{length, getD}

@@ -3,12 +3,12 @@ ghost use denote.Ref.{now};
 ghost use mathlib.Core.Path.{_≡_};
 ghost use Prim.Native.Nat.{_≤_};
 ghost use lib.ListN.{length};
-ghost use Rattle.silk.specs.State.{zeros as zerosZ};
 ghost use Rattle.pages.specs.Page.{page as pageOf, puts};
 ghost use Rattle.excitation.specs.Reading.{reading};
 ghost use Rattle.hear_text.specs.Heard.{answerText, heardText, callText};
 use excitation::answer;
 use excitation::reader;
+use sheet_form::blank;
 use sheet_text::text;
 
 // The answer's line, and after number 0 the values.
@@ -38,18 +38,12 @@ fn read(
     shown(page, answer::number(a), row)
 }
 
-fn zeros() -> [i32; 320]
-    ensures { λ r. ⌜ r ≡ zerosZ 320 ⌝ }
-{
-    [0; 320]
-}
-
 // The text of what is heard. The row that is lent has one zero for each pulse.
 pub fn told(page: &mut [u8], seed: i32, signal_type: i32, offset_type: i32, pulses: &[i8]) -> usize
     requires { ⌜ length (now pulses) ≤ 320 ⌝ }
     ensures { λ r. ⌜ pageOf r (now (page .exit)) ≡ puts (callText seed «signal_type» «offset_type» (now (pulses .entry))) (pageOf 0 (now (page .entry))) ⌝ }
 {
-    let mut space = zeros();
+    let mut space = blank::zeros32();
     let n = pulses.len();
     read(
         page,

@@ -4,22 +4,16 @@ ghost use mathlib.Core.Path.{_≡_};
 ghost use Prim.Native.Nat.{_≤_};
 ghost use lib.ListN.{length, take};
 ghost use mir.Syntax.{w8};
-ghost use Rattle.silk.specs.State.{zeros as zerosZ};
 ghost use Rattle.pages.specs.Page.{page as pageOf, puts};
 ghost use Rattle.sheet_form.specs.Rows.{All};
 ghost use Rattle.hear_text.specs.Heard.{callText, sectionsText, hearText};
 use crate::answer;
 use prefixes::prefix;
+use sheet_form::blank;
 use sheet_form::section;
 use sheet_form::sheet;
 use sheet_form::sheet::Verdict;
 use sheet_text::text;
-
-fn zeros() -> [i8; 320]
-    ensures { λ r. ⌜ r ≡ zerosZ 320 ⌝ }
-{
-    [0; 320]
-}
 
 // The numbers of a section as pulses, in a row of their length.
 fn narrowed(words: &[i32], out: &mut [i8])
@@ -52,7 +46,7 @@ fn called(page: &mut [u8], three: [i32; 320], words: [i32; 320], count: usize) -
     requires { ⌜ All w8 words ⌝ }
     ensures { λ r. ⌜ pageOf r (now (page .exit)) ≡ puts (sectionsText three (take count words)) (pageOf 0 (now (page .entry))) ⌝ }
 {
-    let mut space = zeros();
+    let mut space = blank::zeros8();
     let pulses = prefix::first32(&words, count);
     let n = pulses.len();
     heard(page, three[0], three[1], three[2], pulses, &mut space[0..n])

@@ -1,2 +1,2 @@
-// Refusal 7 of document 01: when the lags of a call are refused. Every number has its answer.
+// Refusal 7 of docs/RULES.md: when the lags of a call are refused. Every number has its answer.
 pub mod lags;

@@ -1,5 +1,5 @@
--- When a setting, a gain or a lag is refused: the tables of document 01, "What a call is given" and "Which number comes back", but the rows'
--- lengths. Every number is a whole number of any size and sign; a row's words are a list. What the document calls L and n are `l` and `n` here.
+-- When a setting, a gain or a lag is refused: the tables of docs/RULES.md, "What a call is given" and "Which number comes back", but the rows'
+-- lengths. Every number is a whole number of any size and sign; a row's words are a list. What docs/RULES.md calls L and n are `l` and `n` here.
 -- Assumes nothing.
 use Prim.Native.Nat.{ℕ, _-_, _%_}
 use mathlib.Core.Bool.{Bool, false, not, _||_}

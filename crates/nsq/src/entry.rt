@@ -1,4 +1,4 @@
-// The call: document 01's refusals, then the frame.
+// The call: the refusals of docs/RULES.md, then the frame.
 ghost use denote.Ref.{now};
 ghost use mathlib.Core.Path.{_≡_};
 ghost use mathlib.Core.List.{List};

@@ -5,7 +5,7 @@ ghost use Rattle.nsq_c.specs.Rows.{called, callLent};
 ghost use Rattle.plain_laid.specs.Laid.{leftOf};
 use crate::calling;
 
-// `silk_NSQ_del_dec_c` on plain rows. Returns document 01's number. Accepted, which is 0: the pulses are written, the two rows
+// `silk_NSQ_del_dec_c` on plain rows. Returns a number of docs/RULES.md. Accepted, which is 0: the pulses are written, the two rows
 // of the state hold the next one, and place 9 of the settings holds the seed that is handed out. Refused: no row is touched.
 #[no_mangle]
 pub extern "C" fn nsq_del_dec(

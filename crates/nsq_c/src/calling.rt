@@ -13,7 +13,7 @@ use settings_row::named;
 
 // What a call gives beside its rows.
 pub struct Replied {
-    // document 01's number
+    // the number of docs/RULES.md, "Which number comes back"
     pub code: u32,
     // at how many places the pulses differ from those that the final winner chose itself
     pub report: i32,

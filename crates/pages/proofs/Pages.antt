@@ -1,12 +1,12 @@
 -- Bytes appended to a page. Assumes nothing.
-use mathlib.Core.Path.{_≡_, refl, sym, ap, _∙_}
+use mathlib.Core.Path.{_≡_, refl, sym, ap, _∙_, subst}
 use mathlib.Core.List.{List, [], _∷_, _++_, append-assoc, append-nil}
 use Prim.Native.Nat.{ℕ, suc, _+_, _≤_, _<_}
 use native.Mathlib.Omega.{arith}
 use native.Mathlib.Numerals.{add-one}
 use borrow.Author.Tests.{lt-ltb, le-ltb, ltb-true}
 use lib.ListN.{length, drop, take, getD, set, length-set, take-append-drop}
-use lib.Seq.{drop-cons, drop-length, take-suc-set, drop-set-lt}
+use lib.Seq.{take-append-seam, drop-cons, drop-length, take-suc-set, drop-set-lt}
 use lib.Dec.{ltb}
 use Rattle.fixed.proofs.Iters.{either-all}
 use Rattle.pages.specs.Page.{Page, page, put, puts}
@@ -45,10 +45,14 @@ put-within b p h =
     either-all (λ (q : Page). q .used ≤ length (q .bytes)) (ltb (p .used) (length (p .bytes))) _ _
     (λ e. let l = ltb-true (p .used) (length (p .bytes)) e in omega (arith, length-set (p .bytes) (p .used) b)) (λ e. h)
 
-pub puts-within : (s : List ℕ) (p : Page) → p .used ≤ length (p .bytes) → puts s p .used ≤ length (puts s p .bytes)
+puts-within : (s : List ℕ) (p : Page) → p .used ≤ length (p .bytes) → puts s p .used ≤ length (puts s p .bytes)
 unfolding puts
 puts-within [] p h = h
 puts-within (b ∷ s) p h = puts-within s (put b p) (put-within b p h)
+
+-- .. after a text is put on an empty page
+pub puts-used : (s out bytes : List ℕ) (used : ℕ) → page used bytes ≡ puts s (page 0 out) → used ≤ length bytes
+puts-used s out bytes used e = subst (λ (p : Page). p .used ≤ length (p .bytes)) (sym e) (puts-within s (page 0 out) (omega arith))
 
 -- ---- where there is room
 take-one : (out : List ℕ) (n b : ℕ) → n < length out → take (n + 1) (set out n b) ≡ take n out ++ (b ∷ [])
@@ -68,3 +72,9 @@ puts-room (b ∷ s) out n h =
 -- .. from the start of the page
 pub puts-first : (s out : List ℕ) → length s ≤ length out → puts s (page 0 out) ≡ page (length s) (s ++ drop (length s) out)
 puts-first s out h = let e : 0 + length s ≡ length s = omega arith in rw e at (puts-room s out 0 (omega arith))
+
+-- so a page that has room for the text holds it: the first bytes, as many as are in use
+pub puts-leaves : (s out bytes : List ℕ) (used : ℕ) → page used bytes ≡ puts s (page 0 out) → length s ≤ length out → take used bytes ≡ s
+puts-leaves s out bytes used e h =
+    let w = e ∙ puts-first s out h in
+    rw (ap (λ (p : Page). p .used) w, ap (λ (p : Page). p .bytes) w) (take-append-seam s (drop (length s) out))

@@ -1,4 +1,4 @@
--- Whole numbers as document 01's sheets print them: bytes of decimal digits. Assumes nothing.
+-- Whole numbers as they are printed (docs/RULES.md, "The call sheet"): bytes of decimal digits. Assumes nothing.
 use Prim.Native.Nat.{ℕ, zero, suc, _+_, _/_, _%_}
 use mathlib.Core.List.{List, [], _∷_, _++_}
 use lib.IntN.{ℤ, pos, negsuc}

@@ -1,5 +1,5 @@
 -- The penalty of a path that was another one than the winner at the decision delay: 'RandState' in silk_noise_shape_quantizer_del_dec, and
--- document 01, "One sample". Assumes nothing.
+-- docs/RULES.md, "One sample". Assumes nothing.
 use Prim.Native.Nat.{ℕ}
 use mathlib.Core.Bool.{Bool}
 use mathlib.Core.List.{List, [], _∷_}

@@ -1,4 +1,4 @@
-// Answers as document 01's numbers.
+// Answers as the numbers of docs/RULES.md, "Which number comes back".
 ghost use denote.Ref.{now};
 ghost use mathlib.Core.Path.{_≡_};
 ghost use Rattle.refusal_rules.specs.Code.{codeOf};

@@ -1,2 +1,2 @@
-// Answers as document 01's numbers.
+// Answers as the numbers of docs/RULES.md, "Which number comes back".
 pub mod answers;

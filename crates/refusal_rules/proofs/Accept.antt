@@ -47,6 +47,13 @@ count-good n e = or-elim (one 2 (omega arith) (omega arith) refl) (one 4 (omega 
     one : (v : ℕ) → 2 ≤ v → v ≤ 4 → v % 2 ≡ 0 → sameZ n (pos v) ≡ true → GoodCount n
     one v lo hi w s = let h = named 2 4 v n lo hi s in record { among = h .0; even = rw (h .1) w }
 
+-- both of them
+pub lengths-good : (l n : ℤ) → lengthsRefused l n ≡ false → GoodLength l × GoodCount n
+unfolding lengthsRefused
+lengths-good l n e =
+    let h = or-false (not (lengthAllowed l)) (not (countAllowed n)) e in
+    (length-good l (not-false _ (h .0)), count-good n (not-false _ (h .1)))
+
 order-good : (l order : ℤ) → GoodLength l → sameZ order (orderFor l) ≡ true → GoodOrder l order
 unfolding orderFor
 order-good l order g e = way (sameZ l (pos 80)) refl (same-true order (orderFor l) e)
@@ -70,10 +77,10 @@ settings-good : (s : Settings)
     → pathsRefused (s .nStatesDelayedDecision) ≡ false
     → kindsRefused (s .signalType) (s .quantOffsetType) (s .«NLSFInterpCoef_Q2») (s .Seed) ≡ false
     → GoodSettings s
-unfolding lengthsRefused ordersRefused pathsRefused kindsRefused
+unfolding ordersRefused pathsRefused kindsRefused
 settings-good s a b c d =
     let l = s .«subfr_length» in
-    let a1 = or-false (not (lengthAllowed l)) (not (countAllowed (s .«nb_subfr»))) a in
+    let a1 = lengths-good l (s .«nb_subfr») a in
     let b2 = or-false (not (sameZ (s .predictLPCOrder) (orderFor l)) || outside (pos 2) (pos 24) (s .shapingLPCOrder)) (oddZ (s .shapingLPCOrder)) b in
     let b1 = or-false (not (sameZ (s .predictLPCOrder) (orderFor l))) (outside (pos 2) (pos 24) (s .shapingLPCOrder)) (b2 .0) in
     let k1 = outside (pos 0) (pos 2) (s .signalType) in
@@ -82,11 +89,10 @@ settings-good s a b c d =
     let d3 = or-false (k1 || k2 || k3) (outside (pos 0) (pos 3) (s .Seed)) d in
     let d2 = or-false (k1 || k2) k3 (d3 .0) in
     let d1 = or-false k1 k2 (d2 .0) in
-    let g = length-good l (not-false (lengthAllowed l) (a1 .0)) in
     record {
-      l = g;
-      n = count-good (s .«nb_subfr») (not-false (countAllowed (s .«nb_subfr»)) (a1 .1));
-      order = order-good l (s .predictLPCOrder) g (not-false (sameZ (s .predictLPCOrder) (orderFor l)) (b1 .0));
+      l = a1 .0;
+      n = a1 .1;
+      order = order-good l (s .predictLPCOrder) (a1 .0) (not-false (sameZ (s .predictLPCOrder) (orderFor l)) (b1 .0));
       shaping = shaping-good (s .shapingLPCOrder) (b1 .1) (b2 .1);
       paths = among 1 4 (s .nStatesDelayedDecision) c;
       kind = among 0 2 (s .signalType) (d1 .0);

@@ -1,4 +1,4 @@
--- Document 01's second table, word for word: number k is given exactly when it applies and no lower one does, and a call is
+-- The table of docs/RULES.md, "Which number comes back", row by row: number k is given exactly when it applies and no lower one does, and a call is
 -- accepted exactly when none applies. Assumes nothing.
 use Prim.Native.Nat.{ℕ, _≤_, _<_}
 use mathlib.Core.Path.{_≡_, refl, sym, _∙_}

@@ -1,4 +1,4 @@
--- Document 01's examples of refusals, and a call for each number, by computation: no statement on accepted or refused calls
+-- The marked examples of refusals (docs/RULES.md), and a call for each number, by computation: no statement on accepted or refused calls
 -- is empty. Assumes nothing.
 use Prim.Native.Nat.{ℕ, _+_, _*_}
 use mathlib.Core.Path.{_≡_, refl}
@@ -48,7 +48,7 @@ number order paths kind lagPrev gain gains lags = codeOf (answerOf (set (pos 40)
 pub two : ℤ → ℤ → List ℤ
 two a b = a ∷ b ∷ []
 
--- document 01's examples, in its order: lags 16 and 144 with L 40 accepted, 15 and 145 refused 7; gain 1 accepted, 0 refused 6;
+-- docs/RULES.md, "Marked examples", in its order: lags 16 and 144 with L 40 accepted, 15 and 145 refused 7; gain 1 accepted, 0 refused 6;
 -- order 16 with L 40 refused 2, and with a path count of 0 also 2
 pub marked-examples :
     (number (pos 10) (pos 1) (pos 2) (pos 0) (pos 65536) (two (pos 65536) (pos 65536)) (two (pos 16) (pos 144))

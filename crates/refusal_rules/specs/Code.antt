@@ -1,4 +1,4 @@
--- Document 01's number of each answer: "Which number comes back". A contract that speaks of an answer gives its number by this.
+-- The number of each answer: docs/RULES.md, "Which number comes back". A contract that speaks of an answer gives its number by this.
 -- Assumes nothing.
 use Prim.Native.Nat.{ℕ}
 use Rattle.refusal_rules.specs.declared.answer.Answer.{Answer}

@@ -1,5 +1,5 @@
--- When a call is refused, and with which answer: the tables of document 01, "What a call is given" and "Which number comes
--- back", row by row. Every number is a whole number of any size and sign; a row's words are a list. What the document calls
+-- When a call is refused, and with which answer: the tables of docs/RULES.md, "What a call is given" and "Which number comes
+-- back", row by row. Every number is a whole number of any size and sign; a row's words are a list. What that text calls
 -- L and n are `l` and `n` here, N is n times L.
 -- Assumes nothing.
 use Prim.Native.Nat.{ℕ, _*_}

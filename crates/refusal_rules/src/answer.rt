@@ -1,6 +1,6 @@
 // What a call is answered, and the lengths of the rows that it lends.
 
-// Accepted, or why not, in the order of document 01's numbers: `codeOf` gives them.
+// Accepted, or why not, in the order of the numbers of docs/RULES.md: `codeOf` gives them.
 pub enum Answer {
     Accepted,
     Lengths,

@@ -1,2 +1,2 @@
-// Which calls are refused, and with which answer: the rule of document 01 ("What a call is given", "Which number comes back"), and what it comes to.
+// Which calls are refused, and with which answer: the rule of docs/RULES.md ("What a call is given", "Which number comes back"), and what it comes to.
 pub mod answer;

@@ -10,7 +10,7 @@ use refusal_rules::answer::Sizes;
 use setting_limits::settings;
 use silk::structs::Settings;
 
-// The first refusal of document 01's table that applies, else accepted. `lagPrev` and `prev_gain_Q16` are the state's.
+// The first refusal of the table that applies (docs/RULES.md), else accepted. `lagPrev` and `prev_gain_Q16` are the state's.
 pub fn check(
     s: Settings,
     z: Sizes,

@@ -1,4 +1,4 @@
--- The offset table: silk_Quantization_Offsets_Q10 of tables_other.rs, and document 01, "One sample", Offset.
+-- The offset table: silk_Quantization_Offsets_Q10 of tables_other.rs, and docs/RULES.md, "One frame", the offset.
 -- Assumes nothing.
 use Prim.Native.Nat.{ℕ, _/_}
 use mathlib.Core.List.{List, [], _∷_}

@@ -1,5 +1,5 @@
 -- What the generator's sign does to a residual before the choice and to a level after it, and which pulse a level is:
--- document 01, "One sample", and silk_noise_shape_quantizer_del_dec of NSQ_del_dec.rs.
+-- docs/RULES.md, "One sample", and silk_noise_shape_quantizer_del_dec of NSQ_del_dec.rs.
 -- Assumes nothing.
 use lib.IntN.{ℤ, pos, negsuc, negℤ, _+ℤ_}
 use lib.Signed.{ltZ}

@@ -1,4 +1,4 @@
--- The linear congruential generator of the dither: document 01, "One sample".
+-- The linear congruential generator of the dither: docs/RULES.md, "One sample".
 -- Assumes nothing.
 use lib.IntN.{ℤ, pos, _+ℤ_, _*ℤ_}
 use Rattle.fixed.specs.Wrap.{wrap32}

@@ -1,2 +1,2 @@
-// Refusals 1 to 4 of document 01: when a call's settings are refused. Every number has its answer.
+// Refusals 1 to 4 of docs/RULES.md: when a call's settings are refused. Every number has its answer.
 pub mod settings;

@@ -1,4 +1,4 @@
--- The twelve settings by name, in document 01's order. Assumes nothing.
+-- The twelve settings by name, in the order of docs/RULES.md. Assumes nothing.
 use mathlib.Core.List.{List}
 use lib.ListN.{getD}
 use lib.IntN.{ℤ, pos}

@@ -1,2 +1,2 @@
-// The twelve settings of a call, from a row of words in document 01's order.
+// The twelve settings of a call, from a row of words in the order of docs/RULES.md.
 pub mod named;

@@ -1,4 +1,4 @@
--- The definition computed on small inputs: the readings of document 01's open points. Assumes nothing.
+-- The definition computed on small inputs: the readings of docs/RULES.md, "The call sheet". Assumes nothing.
 use mathlib.Core.Path.{_≡_, refl}
 use mathlib.Core.List.{[], _∷_}
 use lib.IntN.{pos, negsuc}

@@ -1,10 +1,10 @@
 -- Every number of a section fits where the section's range does. Assumes nothing.
-use mathlib.Core.Path.{_≡_, refl}
+use mathlib.Core.Path.{_≡_, refl, ap}
 use mathlib.Core.List.{List, [], _∷_, _++_}
 use Prim.Native.Nat.{ℕ, zero, suc, _-_, _+_, _≤_, _<_}
 use native.Mathlib.Omega.{arith}
 use lib.ListN.{length, getD, replicate, take, set}
-use lib.Seq.{take-suc, take-suc-set}
+use lib.Seq.{take-suc, take-suc-set, take-append-seam}
 use lib.IntN.{ℤ, pos, negsuc, natAbs}
 use lib.Dec.{T}
 use lib.Signed.{ltZ, nonNeg}
@@ -35,6 +35,22 @@ zeros-at (z ∷ zs) n (suc i) = zeros-at zs n i
 pub padded-at : (zs : List ℤ) (i : ℕ) → getD (padded zs) i (pos 0) ≡ getD zs i (pos 0)
 unfolding padded
 padded-at zs i = zeros-at zs (320 - length zs) i
+
+-- ---- the first words of a row
+take-zeros : (n m : ℕ) → n ≤ m → take n (replicate m (pos 0)) ≡ replicate n (pos 0)
+take-zeros zero m h = refl
+take-zeros (suc n) zero h = absurd (omega arith)
+take-zeros (suc n) (suc m) h = ap (λ (zs : List ℤ). pos 0 ∷ zs) (take-zeros n m (omega arith))
+
+-- of 320 zeros
+pub zeros-first : (n : ℕ) → n ≤ 320 → take n (zeros 320) ≡ zeros n
+unfolding zeros
+zeros-first n h = take-zeros n 320 h
+
+-- of a row with its zeros, as many as were read
+pub padded-first : (zs : List ℤ) → take (length zs) (padded zs) ≡ zs
+unfolding padded
+padded-first zs = take-append-seam zs (zeros (320 - length zs))
 
 -- ---- the numbers that were read
 abbrev AllRead : Width → Read (List ℤ) → Type 0

@@ -3,6 +3,7 @@ pub mod NextWord
 pub mod Numbers
 pub mod Fitting
 pub mod Whole
+pub mod Faults
 pub mod Paths
 pub mod Unique
 pub mod Examples

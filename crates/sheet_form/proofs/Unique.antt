@@ -8,6 +8,11 @@ use Rattle.sheet_form.specs.Rows.{restAt}
 use Rattle.sheet_form.specs.Sheets.{verdictOf}
 use Rattle.sheet_form.specs.declared.sheet.Verdict.{Verdict}
 use Rattle.sheet_form.specs.declared.sheet.Verdict.the-variants as verdict
+use Rattle.sheet_form.proofs.blank.zeros32.Reads as zeros32
+use Rattle.sheet_form.proofs.blank.zeros16.Reads as zeros16
+use Rattle.sheet_form.proofs.blank.zeros8.Reads as zeros8
+use Rattle.sheet_form.proofs.blank.empty32.Reads as empty32
+use Rattle.sheet_form.proofs.blank.empty16.Reads as empty16
 use Rattle.sheet_form.proofs.sheet.start.Reads as start
 use Rattle.sheet_form.proofs.sheet.end.Reads as end
 use Rattle.sheet_form.proofs.sheet.read.Reads as read
@@ -56,3 +61,19 @@ section16-unique κs a r s e p q = (p .same-rest ∙ sym (q .same-rest), p .same
 pub section8-unique : (κs a r s e : _) → section8.Post κs a r e → section8.Post κs a s e
     → (restAt (now (a .0)) (r .next) ≡ restAt (now (a .0)) (s .next)) × (r .row ≡ s .row)
 section8-unique κs a r s e p q = (p .same-rest ∙ sym (q .same-rest), p .same-row ∙ sym (q .same-row))
+
+-- ---- rows with nothing in them
+pub zeros32-unique : (κs a r s e : _) → zeros32.Post κs a r e → zeros32.Post κs a s e → r ≡ s
+zeros32-unique κs a r s e p q = p ∙ sym q
+
+pub zeros16-unique : (κs a r s e : _) → zeros16.Post κs a r e → zeros16.Post κs a s e → r ≡ s
+zeros16-unique κs a r s e p q = p ∙ sym q
+
+pub zeros8-unique : (κs a r s e : _) → zeros8.Post κs a r e → zeros8.Post κs a s e → r ≡ s
+zeros8-unique κs a r s e p q = p ∙ sym q
+
+pub empty32-unique : (κs a r s e : _) → empty32.Post κs a r e → empty32.Post κs a s e → r ≡ s
+empty32-unique κs a r s e p q = p ∙ sym q
+
+pub empty16-unique : (κs a r s e : _) → empty16.Post κs a r e → empty16.Post κs a s e → r ≡ s
+empty16-unique κs a r s e p q = p ∙ sym q

@@ -1,4 +1,4 @@
--- The ten sections of a call sheet: document 01, "The call sheet". A list of bytes is a sheet, ten lists of numbers, or
+-- The ten sections of a call sheet: docs/RULES.md, "The call sheet". A list of bytes is a sheet, ten lists of numbers, or
 -- it has a fault, whose number says which section can't be read.
 -- Assumes nothing.
 use Prim.Native.Nat.{ℕ, zero, suc}

@@ -20,6 +20,12 @@ pub fn zeros16() -> [i16; MOST]
     [0; MOST]
 }
 
+pub fn zeros8() -> [i8; MOST]
+    ensures { λ r. ⌜ r ≡ zeros 320 ⌝ }
+{
+    [0; MOST]
+}
+
 // A row with no number.
 pub fn empty32() -> Row32
     ensures { λ r. ⌜ r ≡ row32 [] ⌝ }

@@ -1,5 +1,5 @@
-// Call sheets of document 01: reading one from bytes. The sections are for other sheets of the same form too.
-mod blank;
+// Call sheets (docs/RULES.md, "The call sheet"): reading one from bytes. The sections are for other sheets of the same form too.
+pub mod blank;
 mod number;
 pub mod rows;
 pub mod section;

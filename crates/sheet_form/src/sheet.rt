@@ -69,7 +69,7 @@ pub fn end(text: &[u8], from: Place, k: u32) -> Verdict
     }
 }
 
-// The twelve settings, in document 01's order.
+// The twelve settings, in the order of docs/RULES.md.
 fn settings_of(words: [i32; 320]) -> Settings
     ensures { λ r. ⌜ r ≡ settingsOf words ⌝ }
 {

@@ -6,7 +6,7 @@ use lib.IntN.{ℤ}
 use Rattle.silk.specs.declared.structs.Settings.{Settings}
 use Rattle.sheet_form.specs.declared.sheet.Sheet.{Sheet}
 
--- the twelve settings in document 01's order
+-- the twelve settings in the order of docs/RULES.md
 abbrev pub settingsRow : Settings → List ℤ
 settingsRow s =
     s .«subfr_length»

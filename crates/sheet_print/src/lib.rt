@@ -1,2 +1,2 @@
-// Printing: call sheets of document 01, as bytes in a lent buffer.
+// Printing: call sheets (docs/RULES.md, "The call sheet"), as bytes in a lent buffer.
 pub mod sheet;

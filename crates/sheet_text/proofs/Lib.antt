@@ -1,3 +1,4 @@
--- Lines: the parts of a text, put one after the other. Unique: one outcome.
+-- Lines: the parts of a text, put one after the other. Short: how long a text can be. Unique: one outcome.
 pub mod Lines
+pub mod Short
 pub mod Unique

@@ -1,4 +1,4 @@
--- What is printed: document 01, "The call sheet". The text of an answer, of a fault, and of a sheet, as bytes.
+-- What is printed: docs/RULES.md, "The call sheet". The text of an answer, of a fault, and of a sheet, as bytes.
 -- Assumes nothing.
 use Prim.Native.Nat.{ℕ, zero, suc, _+_, _/_, _%_}
 use mathlib.Core.List.{List, [], _∷_, _++_}

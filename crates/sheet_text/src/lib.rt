@@ -1,2 +1,2 @@
-// The texts of answers and faults, as document 01's sheets print them, in a lent buffer.
+// The texts of answers and faults (docs/RULES.md, "The call sheet"), in a lent buffer.
 pub mod text;

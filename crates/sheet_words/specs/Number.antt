@@ -1,4 +1,4 @@
--- The words and the numbers of a call sheet: document 01, "The call sheet". A sheet is a list of bytes.
+-- The words and the numbers of a call sheet: docs/RULES.md, "The call sheet". A sheet is a list of bytes.
 -- Assumes nothing.
 use Prim.Native.Nat.{ℕ, suc, _-_, _+_, _*_}
 use mathlib.Core.Bool.{Bool, true, false, not}

@@ -1,2 +1,2 @@
-// The words of a call sheet and the numbers that they write (document 01, "The call sheet").
+// The words of a call sheet and the numbers that they write (docs/RULES.md, "The call sheet").
 pub mod words;

@@ -1,4 +1,4 @@
--- The quantiser's state before the first frame: document 01, "What a call is given". The record is that of src/structs.rt.
+-- The quantiser's state before the first frame: docs/RULES.md, "What a call is given". The record is that of src/structs.rt.
 -- Assumes nothing.
 use Prim.Native.Nat.{ℕ}
 use mathlib.Core.List.{List}

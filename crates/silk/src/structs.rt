@@ -3,7 +3,7 @@ ghost use mathlib.Core.Path.{_≡_};
 ghost use Rattle.silk.specs.State.{freshState};
 
 // What the Rust reads of `silk_encoder_state` and `SideInfoIndices`, and the two numbers that its call takes beside them:
-// document 01's twelve settings, in its order.
+// the twelve settings of docs/RULES.md, in its order.
 pub struct Settings {
     pub subfr_length: i32,
     pub nb_subfr: i32,

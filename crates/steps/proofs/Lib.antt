@@ -1,4 +1,5 @@
 pub mod Best
+pub mod Handed
 pub mod Outcomes
 pub mod Rules
 pub mod Sound

@@ -1,4 +1,4 @@
--- The replacement of a path by another: lines 'Replace a state if ..' of silk_noise_shape_quantizer_del_dec, and document 01, "One sample".
+-- The replacement of a path by another: lines 'Replace a state if ..' of silk_noise_shape_quantizer_del_dec, and docs/RULES.md, "One sample".
 -- Costs here are totals, compared as they are, wrapped or not. Assumes nothing.
 use Prim.Native.Nat.{ℕ}
 use mathlib.Core.List.{List, [], _∷_}

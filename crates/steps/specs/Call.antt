@@ -1,4 +1,4 @@
--- A call, and what the frame reads off it: the top of silk_NSQ_del_dec_c of NSQ_del_dec.rs and document 01, "One frame". The Rust's counters
+-- A call, and what the frame reads off it: the top of silk_NSQ_del_dec_c of NSQ_del_dec.rs and docs/RULES.md, "One frame". The Rust's counters
 -- (subfr, sLTP_buf_idx, sLTP_shp_buf_idx, rewhite_flag, lag) are functions of the call and of the subframe's number k. The frame goes by `Given`: the
 -- settings of an accepted call, turned once into counts. Assumes nothing.
 use Prim.Native.Nat.{ℕ, _+_, _-_, _*_, _/_, _≤_, _<_, min}

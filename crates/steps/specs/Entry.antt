@@ -1,4 +1,4 @@
--- A call, refused or accepted: document 01's demands 1 and 2. Whatever a call is given, `outcome` is what comes of it: its answer, the seed, the
+-- A call, refused or accepted: docs/RULES.md, demands 1 and 2. Whatever a call is given, `outcome` is what comes of it: its answer, the seed, the
 -- state and the pulses, each word of them. Assumes nothing.
 use Prim.Native.Nat.{ℕ}
 use mathlib.Core.List.{List}
@@ -25,7 +25,7 @@ pub record Outcome : Type 0 where
 abbrev pub outcomeOf : Answer → ℤ → NsqState → List ℤ → Outcome
 outcomeOf a seed state out = record { answer = a; seed = seed; state = state; pulses = out }
 
--- its answer, by document 01's table
+-- its answer, by the table of refusals
 unfoldable pub answered : Call → List ℤ → List ℤ → Answer
 answered c x out =
     answerOf (c .settings) (sizesOf c x out) (c .state .lagPrev) (c .state .«prev_gain_Q16») (c .«Gains_Q16») (c .pitchL)

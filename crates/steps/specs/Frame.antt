@@ -1,4 +1,4 @@
--- A whole frame: silk_NSQ_del_dec_c of NSQ_del_dec.rs, and document 01, "One frame". Assumes nothing.
+-- A whole frame: silk_NSQ_del_dec_c of NSQ_del_dec.rs, and docs/RULES.md, "One frame". Assumes nothing.
 use Prim.Native.Nat.{ℕ, _+_, _-_, _*_, _<_}
 use mathlib.Core.Bool.{Bool, true, false}
 use mathlib.Core.List.{List, [], _∷_, _++_}

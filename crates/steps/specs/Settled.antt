@@ -1,4 +1,4 @@
--- A sample, once every path has its two candidates: winner, penalty and replacement, then what leaves. Document 01, "One sample". Assumes nothing.
+-- A sample, once every path has its two candidates: winner, penalty and replacement, then what leaves. docs/RULES.md, "One sample". Assumes nothing.
 use Prim.Native.Nat.{ℕ}
 use mathlib.Core.List.{List}
 use lib.IntN.{ℤ}

@@ -1,5 +1,5 @@
 -- The winner among the paths at one sample, and the two searches of the replacement: lines 'RDmin_Q10 = ..' of silk_noise_shape_quantizer_del_dec,
--- and document 01, "One sample". Costs here are totals, compared as they are, wrapped or not. Assumes nothing.
+-- and docs/RULES.md, "One sample". Costs here are totals, compared as they are, wrapped or not. Assumes nothing.
 use Prim.Native.Nat.{ℕ}
 use mathlib.Core.List.{List}
 use lib.Signed.{ltZ}

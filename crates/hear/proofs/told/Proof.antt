@@ -1,13 +1,6 @@
 -- `hear::told` meets its contract: what it writes is within the page. Assumes nothing.
-use native.Mathlib.Omega.{arith}
-use mathlib.Core.Path.{sym, subst}
-use Prim.Native.Nat.{_≤_}
 use borrow.Author.Needs.{needs}
-use denote.Ref.{now}
-use lib.ListN.{length}
-use Rattle.pages.specs.Page.{Page, page}
-use Rattle.pages.proofs.Pages.{puts-within}
-use Rattle.hear_text.specs.Heard.{hearText}
+use Rattle.pages.proofs.Pages.{puts-used}
 use Rattle.hear.proofs.told.Statement.{statement}
 use Rattle.hear.proofs.told.Tie as tie
 
@@ -23,9 +16,7 @@ part-write-all-start c = search needs
 part-write-all-end : tie.Need-part-write-all-end
 part-write-all-end c =
     let h = c .before .before .before in
-    let a = h .before .before .before .before .args in
-    let within : h .hear .result ≤ length (h .hear .last .1 .0) =
-    subst (λ (q : Page). q .used ≤ length (q .bytes)) (sym (h .hear .ensures)) (puts-within (hearText (now (a .input))) (page 0 (now (a .page))) (omega arith)) in
+    let within = puts-used _ _ _ _ (h .hear .ensures) in
     search needs
 
 write-all-requires : tie.Need-write-all-requires

@@ -6,13 +6,13 @@ use denote.Ref.{now}
 use lib.ListN.{length}
 use Rattle.fixed.proofs.Fit.{read}
 use Rattle.hear_text.specs.Heard.{callText}
-use Rattle.hear_text.proofs.Parts.{zeros-first}
+use Rattle.sheet_form.proofs.Fitting.{zeros-first}
 use borrow.Author.Needs.{needs}
 use Rattle.hear_text.proofs.answer.told.Statement.{statement}
 use Rattle.hear_text.proofs.answer.told.Tie as tie
 
-zeros-requires : tie.Need-zeros-requires
-zeros-requires c κs = search needs
+zeros32-requires : tie.Need-zeros32-requires
+zeros32-requires c κs = search needs
 
 sub-read : tie.Need-sub-read
 sub-read c = search needs
@@ -39,13 +39,13 @@ returns c =
     let f = st .fits in
     let n = length (now (a .pulses)) in
     let m : n - 0 ≡ n = omega arith in
-    rw (read (f .seed), read (f .signal-type), read (f .offset-type), z .zeros .ensures, m, zeros-first n (st .pre)) at (r .read .ensures)
+    rw (read (f .seed), read (f .signal-type), read (f .offset-type), z .zeros32 .ensures, m, zeros-first n (st .pre)) at (r .read .ensures)
 
 pub told-spec : {M : Type 1} → statement M
 told-spec =
     tie.close
     (tie.spec
-    zeros-requires
+    zeros32-requires
     sub-read
     part-space-start
     part-space-end

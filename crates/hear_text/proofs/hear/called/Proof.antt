@@ -21,8 +21,8 @@ short c =
     let n : length (a .t3) ≡ 320 = omega (arith, st .good) in
     rw (c .first32 .ensures) (omega (arith, length-take (a .count) (a .t3)))
 
-zeros-requires : tie.Need-zeros-requires
-zeros-requires c κs = search needs
+zeros8-requires : tie.Need-zeros8-requires
+zeros8-requires c κs = search needs
 
 first32-requires : tie.Need-first32-requires
 first32-requires c κs = search needs
@@ -69,7 +69,7 @@ pub called-spec : {M : Type 1} → statement M
 called-spec =
     tie.close
     (tie.spec
-    zeros-requires
+    zeros8-requires
     first32-requires
     array-copy-out-heard
     array-copy-out-heard-2

@@ -1,0 +1,22 @@
+-- Any two outcomes that a public function's contract allows are equal: the count, and every byte, pulse and word. Assumes nothing.
+use mathlib.Core.Path.{_≡_, sym, _∙_}
+use denote.Ref.{now}
+use Rattle.pages.proofs.Unique.{parts}
+use Rattle.nsq.proofs.Unique.{one-outcome}
+use Rattle.sheet_page.proofs.call.pulse_count.Reads as pulse-count
+use Rattle.sheet_page.proofs.call.answered.Reads as answered
+use Rattle.sheet_page.proofs.page.answer_page.Reads as answer-page
+use Rattle.sheet_page.proofs.page.sheet_page.Reads as sheet-page
+
+pub pulse-count-unique : (κs a r s e : _) → pulse-count.Post κs a r e → pulse-count.Post κs a s e → r ≡ s
+pulse-count-unique κs a r s e p q = p ∙ sym q
+
+-- answer, seed, every word of the state and the report are the same, and so are the pulses
+pub answered-unique : (κs a r s e f : _) → answered.Post κs a r e → answered.Post κs a s f → (r ≡ s) × (now (e .1 .0) ≡ now (f .1 .0))
+answered-unique κs a r s e f p q = one-outcome (p .0 ∙ sym (q .0)) (p .1 ∙ sym (q .1))
+
+pub answer-page-unique : (κs a r s e f : _) → answer-page.Post κs a r e → answer-page.Post κs a s f → (r ≡ s) × (now (e .0) ≡ now (f .0))
+answer-page-unique κs a r s e f p q = parts r s _ _ (p ∙ sym q)
+
+pub sheet-page-unique : (κs a r s e f : _) → sheet-page.Post κs a r e → sheet-page.Post κs a s f → (r ≡ s) × (now (e .1 .0) ≡ now (f .1 .0))
+sheet-page-unique κs a r s e f p q = parts r s _ _ (p ∙ sym q)

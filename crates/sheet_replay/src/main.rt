@@ -1,0 +1,45 @@
+// Replays stored sheets through the function behind the program `sheet`: faults and refusals of every number, 1 to 4 paths, frames of every length,
+// voiced and not, rows that differ from each other. The list is on standard input: of each sheet its length, six digits and a line feed, then its
+// bytes. The texts are printed one after the other.
+//
+// The file `stdout` was not made by this program: the stored texts were made with the Rust. tests/sheet_replay.py put both files together.
+use fixed::wrap;
+use limits::count;
+use sheet_page::page;
+use sheet_words::words;
+use sheet_words::words::Word;
+
+// The length of the next sheet. After the last one stands none, which is read as one that is too long.
+fn next_length() -> usize {
+    let mut head = [0u8; 7];
+    io::read_full(0, &mut head);
+    match words::number_of(&head[0..6]) {
+        Word::Is(z) => count::count(wrap::low32(z)),
+        Word::Unreadable => 65538,
+    }
+}
+
+// A sheet as long as the row that is lent for it, and its text, written from a lent page.
+fn told(input: &mut [u8], page: &mut [u8]) {
+    io::read_full(0, input);
+    let used = page::sheet_page(input, page);
+    io::write_all(1, &page[0..used]);
+}
+
+// The next sheet, if there is one.
+fn replay() {
+    let length = next_length();
+    if 65537 < length {
+        return;
+    }
+    let mut space = [0u8; 65537];
+    let mut page = [0u8; 4096];
+    told(&mut space[0..length], &mut page);
+}
+
+// All sheets of the list, at most 512.
+fn main() {
+    for k in 0usize..512 {
+        replay();
+    }
+}
