@@ -1,16 +1,31 @@
-/* The SILK noise shaping quantiser with delayed decision, proved. Link target/staticlib/libnsq_c.a, which tools/build-lib
- * writes, into an x86-64 Linux program (gcc program.c -Iinclude target/staticlib/libnsq_c.a).
+/* The SILK noise shaping quantiser with delayed decision, proved. docs/RULES.md has the rules that it keeps.
+ *
+ * The archive libnsq_c.a is for 64-bit little-endian Linux on three processors: `tools/build-lib` writes that for x86-64,
+ * `tools/build-lib --target aarch64` and `--target riscv64` write the others. After `tools/install PREFIX`, with PREFIX/lib/pkgconfig in
+ * PKG_CONFIG_PATH:
+ *   gcc program.c $(pkg-config --cflags --libs nsq)
+ * or from the repository itself: gcc -Iinclude program.c target/staticlib/libnsq_c.a (x86-64; target/staticlib/aarch64, riscv64).
  *
  * All functions may be called with anything: they hold no state of their own, keep no pointer, allocate nothing and ask nothing
  * of their numbers. Each row is a pointer and its length IN ELEMENTS. What the caller owes is what C cannot check:
  *   - behind each pointer there are as many elements as its length says (length 0: any pointer, NULL too, nothing is read);
- *   - rows that are written (settings, samples, words, pulses, report, excitation) overlap no other row of the same call.
+ *   - rows that are written (settings, samples, words, pulses, report, excitation) overlap no other row of the same call;
+ *   - NSQ_STACK bytes of stack are free.
  * A call may run at the same time as others on other rows. */
 #ifndef NSQ_H
 #define NSQ_H
 
 #include <stddef.h>
 #include <stdint.h>
+
+/* The version of the library. bindings/rust/Cargo.toml has the same, nsq.pc takes it from here. */
+#define NSQ_VERSION "0.1.0"
+
+/* A call needs at most this many bytes of stack, 48 KB: measured, not proved. On a painted stack (tests/compare/stack.c; calls of every L,
+ * voiced and not, each with 1 to 4 paths) nsq_del_dec_report used 44,344 bytes on x86-64, 44,160 on aarch64 and 45,376 on riscv64 (these two
+ * under qemu-user); nsq_del_dec 160 to 224 less. A program that is linked dynamically looks up memcpy and its like in the first call that
+ * needs them: that took up to 3,024 bytes more. */
+#define NSQ_STACK 49152
 
 #ifdef __cplusplus
 extern "C" {

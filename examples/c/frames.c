@@ -1,6 +1,7 @@
 /* Codes three frames of a tone, the state handed from one to the next, and prints the pulses and the first ten values of the excitation that
  * the far end makes of them. After tools/build-lib:
- *   gcc -O2 -Iinclude examples/c/frames.c target/staticlib/libnsq_c.a -o target/frames && target/frames */
+ *   gcc -O2 -Iinclude examples/c/frames.c target/staticlib/libnsq_c.a -o target/frames && target/frames
+ * examples/frames.expect is what it prints; tests/examples holds that file to the Rust. examples/c/voiced.c shows more. */
 #include "nsq.h"
 #include <stdio.h>
 

@@ -1,4 +1,4 @@
-/* Rows of other lengths, NULL where a row has none, at both entries: each gets document 01's number, touches no row and stops nothing. And
+/* Rows of other lengths, NULL where a row has none, at both entries: each gets the number of docs/RULES.md, touches no row and stops nothing. And
  * that nsq_del_dec_report does to the thirteen rows what nsq_del_dec does. Prints the number of calls that were made. */
 #include "calls.h"
 #include <stdio.h>
