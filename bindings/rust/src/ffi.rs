@@ -1,7 +1,9 @@
 //! The four functions of the library. Each row is lent as its pointer and its length, from a slice that holds it, and rows that are
-//! written are lent by `&mut`, so they overlap nothing: that is all that include/nsq.h asks of a caller.
+//! written are lent by `&mut`, so they overlap nothing: that is all that include/nsq.h asks of a caller, but for the stack.
 use crate::Rows;
 
+// a pointer and its length side by side
+#[rustfmt::skip]
 extern "C" {
     fn nsq_fresh(samples: *mut i16, samples_len: usize, words: *mut i32, words_len: usize) -> u32;
     fn nsq_del_dec(
@@ -23,33 +25,31 @@ extern "C" {
     ) -> u32;
 }
 
+/// Calls an entry with the thirteen rows that both are lent, and with what comes after them.
+#[rustfmt::skip]
+macro_rules! lend {
+    ($entry:ident($settings:ident, $samples:ident, $words:ident, $r:ident, $pulses:ident $(, $more:expr)*)) => {
+        $entry(
+            $settings.as_mut_ptr(), $settings.len(), $samples.as_mut_ptr(), $samples.len(), $words.as_mut_ptr(), $words.len(),
+            $r.x.as_ptr(), $r.x.len(), $pulses.as_mut_ptr(), $pulses.len(), $r.pred_coef_q12.as_ptr(), $r.pred_coef_q12.len(),
+            $r.ltp_coef_q14.as_ptr(), $r.ltp_coef_q14.len(), $r.ar_q13.as_ptr(), $r.ar_q13.len(),
+            $r.harm_shape_gain_q14.as_ptr(), $r.harm_shape_gain_q14.len(), $r.tilt_q14.as_ptr(), $r.tilt_q14.len(),
+            $r.lf_shp_q14.as_ptr(), $r.lf_shp_q14.len(), $r.gains_q16.as_ptr(), $r.gains_q16.len(),
+            $r.pitch_l.as_ptr(), $r.pitch_l.len() $(, $more)*
+        )
+    };
+}
+
 pub fn fresh(samples: &mut [i16], words: &mut [i32]) -> u32 {
     unsafe { nsq_fresh(samples.as_mut_ptr(), samples.len(), words.as_mut_ptr(), words.len()) }
 }
 
 pub fn del_dec(settings: &mut [i32], samples: &mut [i16], words: &mut [i32], r: &Rows, pulses: &mut [i8]) -> u32 {
-    unsafe {
-        nsq_del_dec(
-            settings.as_mut_ptr(), settings.len(), samples.as_mut_ptr(), samples.len(), words.as_mut_ptr(), words.len(),
-            r.x.as_ptr(), r.x.len(), pulses.as_mut_ptr(), pulses.len(), r.pred_coef_q12.as_ptr(), r.pred_coef_q12.len(),
-            r.ltp_coef_q14.as_ptr(), r.ltp_coef_q14.len(), r.ar_q13.as_ptr(), r.ar_q13.len(),
-            r.harm_shape_gain_q14.as_ptr(), r.harm_shape_gain_q14.len(), r.tilt_q14.as_ptr(), r.tilt_q14.len(),
-            r.lf_shp_q14.as_ptr(), r.lf_shp_q14.len(), r.gains_q16.as_ptr(), r.gains_q16.len(), r.pitch_l.as_ptr(), r.pitch_l.len(),
-        )
-    }
+    unsafe { lend!(nsq_del_dec(settings, samples, words, r, pulses)) }
 }
 
 pub fn del_dec_report(settings: &mut [i32], samples: &mut [i16], words: &mut [i32], r: &Rows, pulses: &mut [i8], report: &mut [i32]) -> u32 {
-    unsafe {
-        nsq_del_dec_report(
-            settings.as_mut_ptr(), settings.len(), samples.as_mut_ptr(), samples.len(), words.as_mut_ptr(), words.len(),
-            r.x.as_ptr(), r.x.len(), pulses.as_mut_ptr(), pulses.len(), r.pred_coef_q12.as_ptr(), r.pred_coef_q12.len(),
-            r.ltp_coef_q14.as_ptr(), r.ltp_coef_q14.len(), r.ar_q13.as_ptr(), r.ar_q13.len(),
-            r.harm_shape_gain_q14.as_ptr(), r.harm_shape_gain_q14.len(), r.tilt_q14.as_ptr(), r.tilt_q14.len(),
-            r.lf_shp_q14.as_ptr(), r.lf_shp_q14.len(), r.gains_q16.as_ptr(), r.gains_q16.len(), r.pitch_l.as_ptr(), r.pitch_l.len(),
-            report.as_mut_ptr(), report.len(),
-        )
-    }
+    unsafe { lend!(nsq_del_dec_report(settings, samples, words, r, pulses, report.as_mut_ptr(), report.len())) }
 }
 
 pub fn excitation(pulses: &[i8], seed: i32, signal_type: i32, offset_type: i32, row: &mut [i32]) -> u32 {
@@ -60,6 +60,7 @@ pub fn excitation(pulses: &[i8], seed: i32, signal_type: i32, offset_type: i32, 
 #[cfg(test)]
 mod tests {
     use super::*;
+    use crate::places;
 
     /// every row of a call that can be written
     #[derive(Clone, Debug, PartialEq)]
@@ -75,15 +76,22 @@ mod tests {
         /// a good call but for the report's length, on a state that is not fresh
         fn new(report: usize) -> Written {
             let mut words = vec![5; 767];
-            (words[762], words[765]) = (0, 65536);
+            (words[places::LAG_PREV], words[places::PREV_GAIN_Q16]) = (0, 65536);
             let settings = vec![40, 2, 10, 2, 2, 0, 0, 0, 4, 3, 1000, 0];
             Written { settings, samples: vec![5; 640], words, pulses: vec![77; 80], report: vec![77; report] }
         }
 
         fn call(&mut self) -> u32 {
             let rows = Rows {
-                x: &[900; 80], pred_coef_q12: &[100; 32], ltp_coef_q14: &[0; 10], ar_q13: &[50; 48], harm_shape_gain_q14: &[0; 2],
-                tilt_q14: &[-1000; 2], lf_shp_q14: &[0; 2], gains_q16: &[1 << 22; 2], pitch_l: &[0; 2],
+                x: &[900; 80],
+                pred_coef_q12: &[100; 32],
+                ltp_coef_q14: &[0; 10],
+                ar_q13: &[50; 48],
+                harm_shape_gain_q14: &[0; 2],
+                tilt_q14: &[-1000; 2],
+                lf_shp_q14: &[0; 2],
+                gains_q16: &[1 << 22; 2],
+                pitch_l: &[0; 2],
             };
             del_dec_report(&mut self.settings, &mut self.samples, &mut self.words, &rows, &mut self.pulses, &mut self.report)
         }

@@ -1,19 +1,70 @@
-//! A safe wrapper of the proved SILK noise shaping quantiser with delayed decision (`include/nsq.h`).
+//! A safe wrapper of the proved SILK noise shaping quantiser with delayed decision (`include/nsq.h`; `docs/RULES.md` has its rules).
 //!
 //! A [`State`] holds what one frame leaves for the next; [`State::code`] codes a frame by [`Settings`] and [`Rows`] and writes its
 //! pulses. The lengths of the rows are tested here, before the call, and again by the library: a wrong one is [`Refusal::Row`]. A refused
 //! call leaves the state and the pulses as they were. [`State::code_reported`] codes a frame likewise and counts where the pulses handed out
-//! differ from the winner's own, which is nowhere. [`excitation`] is what the far end makes of a frame's pulses.
+//! differ from the winner's own, which is nowhere. [`excitation`] is what the far end makes of a frame's pulses. A call needs 48 KB of stack at
+//! most (`NSQ_STACK` in `include/nsq.h`, which says how that was measured).
+//!
+//! A frame of a tone, coded with two paths, and a call that is refused:
+//!
+//! ```
+//! use nsq::{places, Refusal, Rows, Settings, State};
+//!
+//! let settings = Settings {
+//!     subfr_length: 40,             // L
+//!     nb_subfr: 2,                  // n: a frame has 80 samples
+//!     predict_lpc_order: 10,
+//!     shaping_lpc_order: 2,
+//!     n_states_delayed_decision: 2, // paths
+//!     warping_q16: 0,
+//!     signal_type: 0,               // not voiced
+//!     quant_offset_type: 0,
+//!     nlsf_interp_coef_q2: 4,
+//!     seed: 0,
+//!     lambda_q10: 1000,
+//!     ltp_scale_q14: 0,
+//! };
+//! let x: Vec<i16> = (0..80).map(|i| if i % 20 < 10 { 900 } else { -900 }).collect();
+//! let mut pred = [0; 32];
+//! (pred[0], pred[16]) = (3000, 3000); // each sample is predicted as 3000 / 4096 of the one before
+//! let rows = Rows {
+//!     x: &x,
+//!     pred_coef_q12: &pred,
+//!     ltp_coef_q14: &[0; 10],
+//!     ar_q13: &[0; 48],
+//!     harm_shape_gain_q14: &[0; 2],
+//!     tilt_q14: &[-2000; 2],
+//!     lf_shp_q14: &[0; 2],
+//!     gains_q16: &[65536 * 400; 2],
+//!     pitch_l: &[0; 2],
+//! };
+//! let (mut state, mut pulses) = (State::default(), [0; 80]);
+//! let seed = state.code(&settings, &rows, &mut pulses)?;
+//! assert_eq!(seed, 0);
+//! assert_eq!(pulses[..10], [2, -1, 0, 1, 0, 1, 0, -1, 1, 0]);
+//! assert_eq!(state.words()[places::PREV_GAIN_Q16], 65536 * 400);
+//!
+//! // n is 2 here, so no row of gains has three
+//! let why = state.code(&settings, &Rows { gains_q16: &[65536; 3], ..rows }, &mut pulses).unwrap_err();
+//! assert_eq!(why, Refusal::Row);
+//! assert_eq!(why.to_string(), "refused: 5, a row has another length");
+//! # Ok::<(), Refusal>(())
+//! ```
 #![deny(missing_docs)]
 
 mod ffi;
+pub mod places;
+
+use std::error::Error;
+use std::fmt;
 
 /// The lengths of a state's two rows.
 pub const SAMPLES: usize = 640;
 /// See [`SAMPLES`].
 pub const WORDS: usize = 767;
 
-/// Why a call was refused, by document 01's numbers. The lowest that applies is given.
+/// Why a call was refused, by the numbers of `docs/RULES.md` (`why as u32`). The lowest that applies is given.
 #[derive(Clone, Copy, Debug, PartialEq, Eq)]
 #[repr(u32)]
 pub enum Refusal {
@@ -32,6 +83,24 @@ pub enum Refusal {
     /// A lag is not allowed.
     Lag = 7,
 }
+
+/// The number and what it means, as `refused: 7, a lag is not allowed`.
+impl fmt::Display for Refusal {
+    fn fmt(&self, f: &mut fmt::Formatter) -> fmt::Result {
+        let words = match self {
+            Refusal::Length => "the subframe length or the subframe count is not allowed",
+            Refusal::Order => "the prediction order or the shaping order is not allowed",
+            Refusal::Paths => "the path count is not allowed",
+            Refusal::Kind => "the signal type, offset type, interpolation or seed is not allowed",
+            Refusal::Row => "a row has another length",
+            Refusal::Gain => "a gain is below 1",
+            Refusal::Lag => "a lag is not allowed",
+        };
+        write!(f, "refused: {}, {words}", *self as u32)
+    }
+}
+
+impl Error for Refusal {}
 
 /// The settings of a call; L is `subfr_length`, n is `nb_subfr`, a frame has n times L samples.
 #[derive(Clone, Copy, Debug, PartialEq, Eq)]
@@ -62,6 +131,9 @@ pub struct Settings {
     pub ltp_scale_q14: i32,
 }
 
+/// Where the seed stands in the row of settings.
+const SEED: usize = 9;
+
 impl Settings {
     /// N, the samples and pulses of a frame, where n and L are allowed.
     pub fn frame_length(&self) -> Option<usize> {
@@ -71,8 +143,17 @@ impl Settings {
 
     fn row(&self) -> [i32; 12] {
         [
-            self.subfr_length, self.nb_subfr, self.predict_lpc_order, self.shaping_lpc_order, self.n_states_delayed_decision,
-            self.warping_q16, self.signal_type, self.quant_offset_type, self.nlsf_interp_coef_q2, self.seed, self.lambda_q10,
+            self.subfr_length,
+            self.nb_subfr,
+            self.predict_lpc_order,
+            self.shaping_lpc_order,
+            self.n_states_delayed_decision,
+            self.warping_q16,
+            self.signal_type,
+            self.quant_offset_type,
+            self.nlsf_interp_coef_q2,
+            self.seed,
+            self.lambda_q10,
             self.ltp_scale_q14,
         ]
     }
@@ -111,11 +192,18 @@ impl Rows<'_> {
     }
 }
 
-/// What one frame leaves for the next: 640 samples and 767 words, at the places that `include/nsq.h` names.
+/// What one frame leaves for the next: 640 samples and 767 words, at the places that [`places`] names.
 #[derive(Clone, Debug, PartialEq, Eq)]
 pub struct State {
     samples: [i16; SAMPLES],
     words: [i32; WORDS],
+}
+
+/// The state before the first frame, as [`State::fresh`] makes it.
+impl Default for State {
+    fn default() -> State {
+        State::fresh()
+    }
 }
 
 impl State {
@@ -137,7 +225,7 @@ impl State {
         &self.samples
     }
 
-    /// All other words.
+    /// All other words; [`places`] says where each stands.
     pub fn words(&self) -> &[i32; WORDS] {
         &self.words
     }
@@ -147,7 +235,7 @@ impl State {
         let mut row = settings.row();
         let (samples, words) = self.lent(settings, rows, pulses.len());
         accepted(ffi::del_dec(&mut row, samples, words, rows, pulses))?;
-        Ok(row[9])
+        Ok(row[SEED])
     }
 
     /// Codes a frame as [`State::code`] does, and reports at how many of its places the pulses handed out differ from those that the final
@@ -157,7 +245,7 @@ impl State {
         let (mut row, mut report) = (settings.row(), [-1]); // no count, so that one which is not written shows
         let (samples, words) = self.lent(settings, rows, pulses.len());
         accepted(ffi::del_dec_report(&mut row, samples, words, rows, pulses, &mut report))?;
-        Ok(Reported { seed: row[9], differing: report[0] })
+        Ok(Reported { seed: row[SEED], differing: report[0] })
     }
 
     /// The rows of the state where all lengths fit; else none, so that the settings' refusal comes back, else 5.
@@ -193,7 +281,7 @@ fn accepted(answer: u32) -> Result<(), Refusal> {
     }
 }
 
-/// Why [`excitation`] was refused. The lowest number that applies is given.
+/// Why [`excitation`] was refused (`why as u32` is the number). The lowest number that applies is given.
 #[derive(Clone, Copy, Debug, PartialEq, Eq)]
 #[repr(u32)]
 pub enum HeardRefusal {
@@ -204,6 +292,20 @@ pub enum HeardRefusal {
     /// The two rows differ in length, or are longer than 320.
     Row = 3,
 }
+
+/// The number and what it means, as `refused: 1, the seed is not allowed`.
+impl fmt::Display for HeardRefusal {
+    fn fmt(&self, f: &mut fmt::Formatter) -> fmt::Result {
+        let words = match self {
+            HeardRefusal::Seed => "the seed is not allowed",
+            HeardRefusal::Kind => "the signal type or the offset type is not allowed",
+            HeardRefusal::Row => "the two rows differ in length or are too long",
+        };
+        write!(f, "refused: {}, {words}", *self as u32)
+    }
+}
+
+impl Error for HeardRefusal {}
 
 /// What the far end hears: writes the excitation (Q23) that a decoder makes of a frame's pulses, one value for each (RFC 6716, 4.2.7.8.6).
 /// Any pulses, and any length from 0 to 320 that both rows have. `seed` is the one that [`State::code`] handed back, `signal_type` and

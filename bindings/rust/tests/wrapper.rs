@@ -1,11 +1,40 @@
-//! The wrapper: every refusal, wrong lengths of every row, and what a call does to state and pulses.
-use nsq::{excitation, HeardRefusal, Refusal, Reported, Rows, Settings, State, SAMPLES, WORDS};
+//! The wrapper: every refusal, wrong lengths of every row, what a call does to state and pulses, and that names, numbers and words are those
+//! of include/nsq.h and of the example in C.
+use nsq::{excitation, places, HeardRefusal, Refusal, Reported, Rows, Settings, State, SAMPLES, WORDS};
+use std::error::Error;
+use std::ops::Range;
+
+const HEADER: &str = include_str!("../../../include/nsq.h");
+const REFUSALS: [Refusal; 7] = [Refusal::Length, Refusal::Order, Refusal::Paths, Refusal::Kind, Refusal::Row, Refusal::Gain, Refusal::Lag];
+const HEARD_REFUSALS: [HeardRefusal; 3] = [HeardRefusal::Seed, HeardRefusal::Kind, HeardRefusal::Row];
+
+/// the names without NSQ_ and the numbers of one of the header's enums, in their order: of the one that begins with this name
+fn header_enum(first: &str) -> Vec<(&'static str, usize)> {
+    let begins = format!("NSQ_{first} = ");
+    let body = HEADER.split("enum {").skip(1).map(|rest| rest.split("};").next().unwrap());
+    let body = body.map(str::trim_start).find(|b| b.starts_with(&begins)).unwrap();
+    let entry = |line: &'static str| {
+        let (name, rest) = line.trim().strip_prefix("NSQ_")?.split_once(" = ")?;
+        let digits = rest.split(|c: char| !c.is_ascii_digit()).next()?;
+        Some((name, digits.parse().ok()?))
+    };
+    body.lines().filter_map(entry).collect()
+}
 
 fn settings(l: i32, n: i32) -> Settings {
     Settings {
-        subfr_length: l, nb_subfr: n, predict_lpc_order: if l == 80 { 16 } else { 10 }, shaping_lpc_order: 16,
-        n_states_delayed_decision: 4, warping_q16: 0, signal_type: 0, quant_offset_type: 0, nlsf_interp_coef_q2: 4, seed: 1,
-        lambda_q10: 1024, ltp_scale_q14: 0,
+        subfr_length: l,
+        nb_subfr: n,
+        predict_lpc_order: if l == 80 { 16 } else { 10 },
+        shaping_lpc_order: 16,
+        n_states_delayed_decision: 4,
+        warping_q16: 0,
+        signal_type: 0,
+        quant_offset_type: 0,
+        nlsf_interp_coef_q2: 4,
+        seed: 1,
+        lambda_q10: 1024,
+        ltp_scale_q14: 0,
     }
 }
 
@@ -19,14 +48,24 @@ impl Own {
     fn new(s: &Settings) -> Own {
         let (l, n) = (s.subfr_length as usize, s.nb_subfr as usize);
         let x = (0..n * l).map(|i| ((i * 7919) % 2001) as i16 - 1000).collect();
-        Own { shorts: [x, vec![100; 32], vec![0; 5 * n], vec![50; 24 * n]], longs: [vec![0; n], vec![-1000; n], vec![0; n], vec![1 << 22; n], vec![0; n]] }
+        Own {
+            shorts: [x, vec![100; 32], vec![0; 5 * n], vec![50; 24 * n]],
+            longs: [vec![0; n], vec![-1000; n], vec![0; n], vec![1 << 22; n], vec![0; n]],
+        }
     }
 
     fn rows(&self) -> Rows<'_> {
         let ([x, pred, ltp, ar], [harm, tilt, lf, gains, lags]) = (&self.shorts, &self.longs);
         Rows {
-            x, pred_coef_q12: pred, ltp_coef_q14: ltp, ar_q13: ar, harm_shape_gain_q14: harm, tilt_q14: tilt, lf_shp_q14: lf,
-            gains_q16: gains, pitch_l: lags,
+            x,
+            pred_coef_q12: pred,
+            ltp_coef_q14: ltp,
+            ar_q13: ar,
+            harm_shape_gain_q14: harm,
+            tilt_q14: tilt,
+            lf_shp_q14: lf,
+            gains_q16: gains,
+            pitch_l: lags,
         }
     }
 }
@@ -44,7 +83,92 @@ fn refused(why: Refusal, state: &State, s: &Settings, own: &Own, pulses: usize) 
 fn fresh_is_zero_but_the_gain() {
     let s = State::fresh();
     assert!(s.samples().iter().all(|&w| w == 0));
-    assert!(s.words().iter().enumerate().all(|(k, &w)| w == if k == 765 { 65536 } else { 0 }));
+    assert!(s.words().iter().enumerate().all(|(k, &w)| w == if k == places::PREV_GAIN_Q16 { 65536 } else { 0 }));
+    assert_eq!(State::default(), s);
+}
+
+#[test]
+fn places_are_those_of_the_header() {
+    let one = |place: usize| place..place + 1;
+    let ours: [(&str, Range<usize>); 10] = [
+        ("SLTP_SHP_Q14", places::SLTP_SHP_Q14),
+        ("SLPC_Q14", places::SLPC_Q14),
+        ("SAR2_Q14", places::SAR2_Q14),
+        ("SLF_AR_SHP_Q14", one(places::SLF_AR_SHP_Q14)),
+        ("SDIFF_SHP_Q14", one(places::SDIFF_SHP_Q14)),
+        ("LAG_PREV", one(places::LAG_PREV)),
+        ("SLTP_BUF_IDX", one(places::SLTP_BUF_IDX)),
+        ("SLTP_SHP_BUF_IDX", one(places::SLTP_SHP_BUF_IDX)),
+        ("PREV_GAIN_Q16", one(places::PREV_GAIN_Q16)),
+        ("REWHITE_FLAG", one(places::REWHITE_FLAG)),
+    ];
+    let mut named = vec![("SAMPLES", SAMPLES)];
+    named.extend(ours.iter().map(|(name, place)| (*name, place.start)));
+    named.push(("WORDS", WORDS));
+    assert_eq!(named, header_enum("SAMPLES"));
+    // each ends where the next begins
+    assert!(ours.windows(2).all(|pair| pair[0].1.end == pair[1].1.start));
+    assert_eq!(ours[9].1.end, WORDS);
+}
+
+#[test]
+fn places_find_what_a_frame_left() {
+    let s = Settings { signal_type: 2, ..settings(40, 2) };
+    let (mut own, mut state) = (Own::new(&s), State::default());
+    own.longs[3] = vec![1 << 22, 1 << 21];
+    own.longs[4] = vec![100, 99];
+    state.code(&s, &own.rows(), &mut [0; 80]).unwrap();
+    assert_eq!((state.words()[places::LAG_PREV], state.words()[places::PREV_GAIN_Q16]), (99, 1 << 21));
+    assert!([places::SLTP_SHP_Q14, places::SLPC_Q14, places::SAR2_Q14].into_iter().all(|row| state.words()[row].iter().any(|&w| w != 0)));
+}
+
+#[test]
+fn numbers_are_those_of_the_header() {
+    let names = ["BAD_LENGTH", "BAD_ORDER", "BAD_PATHS", "BAD_KIND", "BAD_ROW", "BAD_GAIN", "BAD_LAG"];
+    let ours = names.into_iter().zip(REFUSALS.map(|why| why as usize));
+    assert_eq!(header_enum("ACCEPTED"), [("ACCEPTED", 0)].into_iter().chain(ours).collect::<Vec<_>>());
+    let ours = ["HEARD_BAD_SEED", "HEARD_BAD_KIND", "HEARD_BAD_ROW"].into_iter().zip(HEARD_REFUSALS.map(|why| why as usize));
+    assert_eq!(header_enum("HEARD"), [("HEARD", 0)].into_iter().chain(ours).collect::<Vec<_>>());
+    assert!(HEADER.contains(concat!("\n#define NSQ_VERSION \"", env!("CARGO_PKG_VERSION"), "\"\n")));
+}
+
+#[test]
+fn refusals_say_their_number_in_words() {
+    let words = [
+        "the subframe length or the subframe count is not allowed",
+        "the prediction order or the shaping order is not allowed",
+        "the path count is not allowed",
+        "the signal type, offset type, interpolation or seed is not allowed",
+        "a row has another length",
+        "a gain is below 1",
+        "a lag is not allowed",
+    ];
+    let in_c = include_str!("../../../examples/c/voiced.c");
+    for (k, (why, words)) in REFUSALS.into_iter().zip(words).enumerate() {
+        assert_eq!(why.to_string(), format!("refused: {}, {words}", k + 1));
+        assert!(in_c.contains(&format!("return \"{words}\";")), "examples/c/voiced.c has no words for {why:?}");
+    }
+    let words = [
+        "refused: 1, the seed is not allowed",
+        "refused: 2, the signal type or the offset type is not allowed",
+        "refused: 3, the two rows differ in length or are too long",
+    ];
+    assert_eq!(HEARD_REFUSALS.map(|why| why.to_string()), words);
+}
+
+#[test]
+fn refusals_are_errors() {
+    fn code_and_hear(s: &Settings, heard: usize) -> Result<(), Box<dyn Error>> {
+        let (own, mut pulses) = (Own::new(&settings(40, 2)), [0; 80]);
+        let seed = State::default().code(s, &own.rows(), &mut pulses)?;
+        excitation(&pulses, seed, s.signal_type, s.quant_offset_type, &mut vec![0; heard])?;
+        Ok(())
+    }
+    let good = settings(40, 2);
+    assert!(code_and_hear(&good, 80).is_ok());
+    let why = code_and_hear(&Settings { n_states_delayed_decision: 5, ..good }, 80).unwrap_err();
+    assert_eq!(why.downcast_ref(), Some(&Refusal::Paths));
+    assert_eq!(code_and_hear(&good, 79).unwrap_err().downcast_ref(), Some(&HeardRefusal::Row));
 }
 
 #[test]
@@ -140,7 +264,7 @@ fn gains_and_lags_are_refused() {
     own.longs[3][1] = 0;
     refused(Refusal::Gain, &fresh, &s, &own, 80);
     let mut words = *fresh.words();
-    words[765] = 0;
+    words[places::PREV_GAIN_Q16] = 0;
     refused(Refusal::Gain, &State::from_rows([0; SAMPLES], words), &s, &Own::new(&s), 80);
     let voiced = Settings { signal_type: 2, ..s };
     for (lag, good) in [(15, false), (16, true), (144, true), (145, false)] {
