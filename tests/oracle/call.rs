@@ -36,7 +36,7 @@ impl State {
         s
     }
 
-    /// those that count, of all: document 01, "What counts"
+    /// those that count, of all: docs/RULES.md, "What counts"
     pub fn counting(w: &[i32], l: usize) -> Vec<i32> {
         [&w[..4 * l], &w[640..640 + 4 * l], &w[1280..1296], &w[1376..1403], &w[1406..1407]].concat()
     }

@@ -1,4 +1,4 @@
-//! The oracle: runs calls through the handed-over Rust, with document 01's refusals before it.
+//! The oracle: runs calls through the handed-over Rust, with the refusals of docs/RULES.md before it.
 //!   oracle stream [--digest] [--state] < CALLS     what tools/compare prints of the library
 //!   oracle gen COUNT SEED                          a stream of calls: fresh, chained and given states, extremes, refusals
 //!   oracle bench FILE REPEAT                       nanoseconds per frame, 1, 2 and 4 paths

@@ -1,4 +1,4 @@
-//! The bridge to the Rust, and document 01's refusals.
+//! The bridge to the Rust, and the refusals of docs/RULES.md.
 use crate::call::{Call, Start, State, GAIN, LAG};
 use nsq_rust::silk::structs::{silk_encoder_state, silk_nsq_state, SideInfoIndices};
 use nsq_rust::silk::NSQ_del_dec::silk_NSQ_del_dec_c;
@@ -9,7 +9,7 @@ fn good_lag(l: i32, lag: i32) -> bool {
     2 * l / 5 <= lag && lag <= 18 * l / 5
 }
 
-/// the lowest number of document 01's table that applies, else 0
+/// the lowest number of docs/RULES.md, "Which number comes back", that applies, else 0
 fn refusal(c: &Call, s: &State, pulses: usize) -> u32 {
     let [l, n, order, shaping, paths, _, kind, offset, interp, seed, _, _] = c.settings;
     if ![40, 60, 80].contains(&l) || ![2, 4].contains(&n) {

@@ -1,6 +1,6 @@
 /* cheapest FROM TO: does looking at two candidates lose anything? For each Lambda from FROM to TO, each offset of the table (100 stands there twice
  * and is run once) and each clamped residual: is one of the pulses -40 to 40 cheaper than the first candidate? It prints for each offset how many
- * choices there were, how many had a cheaper pulse, and the one that loses most. Written from document 01, "One sample", in 64 bits, where nothing
+ * choices there were, how many had a cheaper pulse, and the one that loses most. Written from docs/RULES.md, "One sample", in 64 bits, where nothing
  * wraps; it shares nothing with the code. Request E10 proves that with Lambda from 0 to 1104 no pulse at all is cheaper.
  *
  *     gcc -O2 tests/reference/cheapest.c -o target/cheapest && target/cheapest 0 1104 && target/cheapest 1105 1105 */
