@@ -29,10 +29,10 @@ use Rattle.sheet_page.specs.Page.{outcomeText, foundPage}
 use Rattle.sheet_page.proofs.Called.{held-outcome, held-settings}
 
 -- number, seed and pulses of what came of a call
-pub text-of : (k : ℕ) (a : Answer) (seed : ℤ) (state : NsqState) (out : List ℤ) (o : Outcome) → k ≡ codeOf a → outcomeOf a seed state out ≡ o
-    → answerText k seed out ≡ outcomeText o
+pub text-of : (k : ℕ) (a : Answer) (z seed : ℤ) (state : NsqState) (out : List ℤ) (o : Outcome) → k ≡ codeOf a → z ≡ seed → outcomeOf a seed state out ≡ o
+    → answerText k z out ≡ outcomeText o
 unfolding outcomeText
-text-of k a seed state out o e f = rw (e, ← f)
+text-of k a z seed state out o e d f = rw (e, d, ← f)
 
 -- ---- the row that is lent for the pulses has at most 320 words
 -- lengths that are refused: the text is the same with every row

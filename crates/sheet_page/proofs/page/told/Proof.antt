@@ -34,7 +34,7 @@ returns c =
     let r = k .before .before .before in
     let a = r .before .before .before .args in
     let seed = back w32 (r .answered .result .seed) (told .struct-told .given .1 .0 .1) in
-    (rw seed at (t .answer .ensures)) ∙ ap (λ (s : List ℕ). puts s (page 0 (now (a .page)))) (text-of _ _ _ _ _ _ (k .number .ensures) (r .answered .ensures .0))
+    t .answer .ensures ∙ ap (λ (s : List ℕ). puts s (page 0 (now (a .page)))) (text-of _ _ _ _ _ _ _ (k .number .ensures) seed (r .answered .ensures .0))
 
 pub told-spec : {M : Type 1} → statement M
 told-spec =
