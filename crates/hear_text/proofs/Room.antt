@@ -1,4 +1,4 @@
--- How long a text can be: at most 2254 bytes, so that a page of 4096 holds the whole of it. Assumes nothing.
+-- How long a text can be: at most 2249 bytes, so that a page of 4096 holds the whole of it. Assumes nothing.
 use mathlib.Core.Path.{_≡_, refl, _∙_, subst}
 use mathlib.Core.Bool.{Bool, true, false}
 use mathlib.Core.List.{List, [], _∷_, _++_}
@@ -23,7 +23,7 @@ use Rattle.sheet_form.specs.Sheets.{startRest, endOf}
 use Rattle.sheet_form.proofs.Fitting.{bytes-section-fits}
 use Rattle.sheet_form.proofs.Faults.{FaultMost, found-most}
 use Rattle.sheet_text.specs.Text.{lineOf, answerWord, pulseLines}
-use Rattle.sheet_text.proofs.Short.{Small, AllSmall, line-short, lines-short, fault-short}
+use Rattle.sheet_text.proofs.Short.{Small, AllSmall, line-one, lines-short, fault-short}
 use Rattle.excitation.specs.declared.answer.Answer.{Answer}
 use Rattle.excitation.specs.declared.answer.Answer.the-variants.{Accepted, Seeds, Kinds, Rows}
 use Rattle.excitation.specs.Code.{codeOf}
@@ -87,22 +87,22 @@ row-small seed signalType offsetType pulses fits =
     turns («offset_Q23» (natZ signalType) (natZ offsetType)) (offset-most (natZ signalType) (natZ offsetType)) pulses fits (length pulses) (natZ seed)
 
 -- ---- the text of a call: its line, and after number 0 at most 320 values of 7 bytes with what follows each
-answer-most : (number : ℕ) (values : List ℤ) → number < 10 → (number ≡ 0 → (length values ≤ 320) × AllSmall values) → length (answerText number values) ≤ 2254
+answer-most : (number : ℕ) (values : List ℤ) → number < 10 → (number ≡ 0 → (length values ≤ 320) × AllSmall values) → length (answerText number values) ≤ 2249
 unfolding answerText
 answer-most zero values h k =
     let v = k refl in
-    rw (length-append (lineOf answerWord (pos 0)) _) (omega (arith, line-short answerWord (pos 0) (omega arith), lines-short (length values) 0 values (v .1), v .0))
+    rw (length-append (lineOf answerWord (pos 0)) _) (omega (arith, line-one answerWord 0 h, lines-short (length values) 0 values (v .1), v .0))
 answer-most (suc n) values h k =
-    rw (ne-eqb (suc n) 0 (λ e. omega arith), length-append (lineOf answerWord (pos (suc n))) []) (omega (arith, line-short answerWord (pos (suc n)) (omega arith)))
+    rw (ne-eqb (suc n) 0 (λ e. omega arith), length-append (lineOf answerWord (pos (suc n))) []) (omega (arith, line-one answerWord (suc n) h))
 
-heard-short : (a : Answer) (values lent : List ℤ) → (codeOf a ≡ 0 → (length values ≤ 320) × AllSmall values) → length (heardText (heardBy a values lent)) ≤ 2254
+heard-short : (a : Answer) (values lent : List ℤ) → (codeOf a ≡ 0 → (length values ≤ 320) × AllSmall values) → length (heardText (heardBy a values lent)) ≤ 2249
 unfolding heardText heardBy
 heard-short Accepted values lent h = answer-most 0 values (omega arith) h
 heard-short Seeds values lent h = answer-most 1 lent (omega arith) (λ e. absurd (omega arith))
 heard-short Kinds values lent h = answer-most 2 lent (omega arith) (λ e. absurd (omega arith))
 heard-short Rows values lent h = answer-most 3 lent (omega arith) (λ e. absurd (omega arith))
 
-call-short : (seed signalType offsetType : ℤ) (pulses : List ℤ) → ((i : ℕ) → SFits w8 (getD pulses i (pos 0))) → length (callText seed signalType offsetType pulses) ≤ 2254
+call-short : (seed signalType offsetType : ℤ) (pulses : List ℤ) → ((i : ℕ) → SFits w8 (getD pulses i (pos 0))) → length (callText seed signalType offsetType pulses) ≤ 2249
 unfolding callText reading
 call-short seed signalType offsetType pulses fits =
     let r = row-small seed signalType offsetType pulses fits in
@@ -110,7 +110,7 @@ call-short seed signalType offsetType pulses fits =
     (λ e. (omega (arith, r .0, accepted-good seed signalType offsetType (length pulses) (length (zeros (length pulses))) e .most), r .1))
 
 -- ---- every text
-text-short : (three pulses : List ℤ) (m : Reading) → FaultMost 3 (after three (after pulses m)) → ((i : ℕ) → SFits w8 (getD pulses i (pos 0))) → length (textOf (after three (after pulses m))) ≤ 2254
+text-short : (three pulses : List ℤ) (m : Reading) → FaultMost 3 (after three (after pulses m)) → ((i : ℕ) → SFits w8 (getD pulses i (pos 0))) → length (textOf (after three (after pulses m))) ≤ 2249
 unfolding textOf after sectionsText
 text-short three pulses (fault k) p fits = omega (arith, fault-short k (omega arith))
 text-short three pulses (sheet rows) p fits = call-short (getD three 0 (pos 0)) (getD three 1 (pos 0)) (getD three 2 (pos 0)) pulses fits
@@ -119,8 +119,8 @@ found-fault : (s : List ℕ) → FaultMost 3 (found s)
 unfolding found form
 found-fault s = found-most 3 form s (omega arith)
 
--- no text is longer than 14 bytes for the answer's line and 7 for each of 320 values
-pub text-most : (s : List ℕ) → length (hearText s) ≤ 2254
+-- no text is longer than 9 bytes for the answer's line and 7 for each of 320 values
+pub text-most : (s : List ℕ) → length (hearText s) ≤ 2249
 unfolding hearText
 text-most s =
     let ρ0 = startRest s in

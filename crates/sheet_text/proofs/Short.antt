@@ -37,6 +37,11 @@ pub line-short : (w : List ℕ) (z : ℤ) → Small z → length (lineOf w z) �
 unfolding lineOf
 line-short w z h = rw (length-append (w ++ decimal z) _, length-append w _) (omega (arith, decimal-short z h))
 
+-- of one digit
+pub line-one : (w : List ℕ) (k : ℕ) → k < 10 → length (lineOf w (pos k)) ≡ length w + 2
+unfolding lineOf decimal
+line-one w k h = rw (length-append (w ++ digits k) _, length-append w (digits k), digits-one k h) (omega arith)
+
 abbrev pub AllSmall : List ℤ → Type 0
 AllSmall [] = Unit {0}
 AllSmall (z ∷ zs) = Small z × AllSmall zs
