@@ -2,11 +2,9 @@
  * entries with 1, 2, 3 and 4 paths, each time on a stack of its own that was painted before; what is no longer painted afterwards was used.
  * The small functions below that make the call are counted with it. Prints the most for each entry and path count, and how many of the
  * calls there were of each L, voiced and not. Ends with an error where one of these was not tried, or where NSQ_STACK is not enough.
- *   gcc -O2 -std=c99 -Iinclude tests/compare/calls.c tests/compare/stack.c target/staticlib/libnsq_c.a -o target/stack
- *   target/stack FILE
- * This is a measure, not a bound: it shows what was written to, in the calls that were tried. A program that is linked dynamically may look
- * up memcpy and its like at the first call, and that needs stack too: it is counted here, and left out with LD_BIND_NOW=1 or -static.
- * For another processor: its gcc with -static, its archive, and the program under its emulator. */
+ * tools/compare --stack compiles and runs it. This is a measure, not a bound: it shows what was written to, in the calls that were tried. A
+ * program that is linked dynamically may look up memcpy and its like at the first call, and that needs stack too: it is counted here, and left
+ * out with LD_BIND_NOW=1 or -static. */
 #define _XOPEN_SOURCE 600
 #include "calls.h"
 #include <stdio.h>
