@@ -1,4 +1,4 @@
-# What proves: for the launchers and tools/build-lib, sourced as common.sh is. It knows from crates.txt what a crate rests on, tells whether
+# What proves: for the launchers and the tools around the library, sourced as common.sh is. It knows from crates.txt what a crate rests on, tells whether
 # something built is older than its sources, and runs rt with a line of progress.
 # shellcheck shell=bash
 # shellcheck source=tools/lib/common.sh
@@ -27,6 +27,11 @@ is_fresh() { # STAMP CRATE BUILT...
     local changed
     changed=$(find "$root/crates.txt" "${sources[@]/#/"$root/crates/"}" -name must-fail -prune -o -cnewer "$stamp" -print -quit) || return 1
     [ -z "$changed" ]
+}
+
+# A word where the archives of nsq_c were not made by tools/build-lib from what stands here.
+warn_if_stale() {
+    is_fresh "$root/target/staticlib/nsq_c.stamp" nsq_c || say "the archive may be older than its sources; tools/build-lib makes it anew"
 }
 
 # One at a time proves in this folder: rt's files under target/ are shared. Without the command flock nobody waits.
