@@ -15,7 +15,8 @@ use mir.Facts.{sfits-lit}
 use Rattle.fixed.specs.Row.{word}
 use Rattle.fixed.proofs.Lin.{P, N, sfits-lin}
 use Rattle.silk.specs.State.{zeros}
-use Rattle.pages.proofs.Pages.{puts-leaves}
+use Rattle.pages.specs.Page.{page, puts}
+use Rattle.pages.proofs.Pages.{puts-leaves, puts-used}
 use Rattle.refusal_rules.specs.declared.answer.Answer.{Answer}
 use Rattle.refusal_rules.specs.declared.answer.Answer.the-variants.{Accepted, Lengths, Orders, Paths, Kinds, Rows, Gains, Lags}
 use Rattle.refusal_rules.specs.Code.{codeOf}
@@ -94,3 +95,18 @@ text-most rule s = found-short rule (reading s) (reading-most s)
 pub sheet-page-leaves : (κs a r e : _) → sheet-page.Post κs a r e → length (now (a .1 .0)) ≡ 4096 → take r (now (e .1 .0)) ≡ sheetPage keepsFirst (now (a .0))
 sheet-page-leaves κs a r e p l =
     puts-leaves (sheetPage keepsFirst (now (a .0))) (now (a .1 .0)) (now (e .1 .0)) r p (omega (arith, text-most keepsFirst (now (a .0))))
+
+-- .. and of a count and a page of which the contract's equation is known: the count is within the page too
+pub record Whole (s : List ℕ) (out bytes : List ℕ) (used : ℕ) : Type 0 where
+  pub put : page used bytes ≡ puts (sheetPage keepsFirst s) (page 0 out)
+  pub text : take used bytes ≡ sheetPage keepsFirst s
+  pub within : used ≤ length bytes
+
+pub whole-page : (s t out bytes : List ℕ) (used : ℕ) → s ≡ t → length out ≡ 4096 → page used bytes ≡ puts (sheetPage keepsFirst s) (page 0 out) → Whole t out bytes used
+whole-page s t out bytes used e l p =
+    let q : page used bytes ≡ puts (sheetPage keepsFirst t) (page 0 out) = rw e at p in
+    record {
+      put = q;
+      text = puts-leaves (sheetPage keepsFirst t) out bytes used q (omega (arith, text-most keepsFirst t));
+      within = puts-used (sheetPage keepsFirst t) out bytes used q;
+    }

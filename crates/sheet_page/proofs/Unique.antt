@@ -7,6 +7,7 @@ use Rattle.sheet_page.proofs.call.pulse_count.Reads as pulse-count
 use Rattle.sheet_page.proofs.call.answered.Reads as answered
 use Rattle.sheet_page.proofs.page.answer_page.Reads as answer-page
 use Rattle.sheet_page.proofs.page.sheet_page.Reads as sheet-page
+use Rattle.sheet_page.proofs.page.whole.Reads as whole
 
 pub pulse-count-unique : (κs a r s e : _) → pulse-count.Post κs a r e → pulse-count.Post κs a s e → r ≡ s
 pulse-count-unique κs a r s e p q = p ∙ sym q
@@ -20,3 +21,6 @@ answer-page-unique κs a r s e f p q = parts r s _ _ (p ∙ sym q)
 
 pub sheet-page-unique : (κs a r s e f : _) → sheet-page.Post κs a r e → sheet-page.Post κs a s f → (r ≡ s) × (now (e .1 .0) ≡ now (f .1 .0))
 sheet-page-unique κs a r s e f p q = parts r s _ _ (p ∙ sym q)
+
+pub whole-unique : (κs a r s e f : _) → whole.Post κs a r e → whole.Post κs a s f → (r ≡ s) × (now (e .1 .1 .0) ≡ now (f .1 .1 .0))
+whole-unique κs a r s e f p q = parts r s _ _ (p .0 ∙ sym (q .0))

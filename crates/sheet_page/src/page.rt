@@ -1,6 +1,8 @@
 // What the program `sheet` prints, in a lent page.
 ghost use denote.Ref.{now};
 ghost use mathlib.Core.Path.{_≡_};
+ghost use Prim.Native.Nat.{_≤_};
+ghost use lib.ListN.{length, take};
 ghost use Rattle.pages.specs.Page.{page as pageOf, puts};
 ghost use Rattle.steps.specs.Among.{keepsFirst};
 ghost use Rattle.steps.specs.Entry.{outcome};
@@ -45,4 +47,18 @@ pub fn sheet_page(input: &[u8], page: &mut [u8]) -> usize
         Verdict::Good => answer_page(page, s),
         Verdict::Fault(k) => text::fault(page, k),
     }
+}
+
+// The same of the first n bytes of the program's buffer, on the program's page. The buffer has room for one byte more than a sheet can have, so that
+// a longer sheet is known by its length; the page has room for every text, so that the first bytes of it, as many as are handed back, are the text.
+pub fn whole(space: &[u8; 65537], n: usize, page: &mut [u8; 4096]) -> usize
+    ensures page { λ r. ⌜ pageOf r (now (page .exit)) ≡ puts (sheetPageN keepsFirst (take n (now (space .entry)))) (pageOf 0 (now (page .entry))) ⌝ }
+    ensures text { λ r. ⌜ take r (now (page .exit)) ≡ sheetPageN keepsFirst (take n (now (space .entry))) ⌝ }
+    ensures within { λ r. ⌜ r ≤ length (now (page .exit)) ⌝ }
+{
+    let all = &space[..];
+    if 65537 <= n {
+        return sheet_page(all, &mut page[..]);
+    }
+    sheet_page(&all[0..n], &mut page[..])
 }

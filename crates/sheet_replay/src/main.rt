@@ -19,22 +19,17 @@ fn next_length() -> usize {
     }
 }
 
-// A sheet as long as the row that is lent for it, and its text, written from a lent page.
-fn told(input: &mut [u8], page: &mut [u8]) {
-    io::read_full(0, input);
-    let used = page::sheet_page(input, page);
-    io::write_all(1, &page[0..used]);
-}
-
-// The next sheet, if there is one.
+// The next sheet, if there is one, read and answered as the program `sheet` does it.
 fn replay() {
     let length = next_length();
     if 65537 < length {
         return;
     }
     let mut space = [0u8; 65537];
+    io::read_full(0, &mut space[0..length]);
     let mut page = [0u8; 4096];
-    told(&mut space[0..length], &mut page);
+    let used = page::whole(&space, length, &mut page);
+    io::write_all(1, &page[..used]);
 }
 
 // All sheets of the list, at most 512.
