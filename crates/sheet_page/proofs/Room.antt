@@ -1,5 +1,5 @@
 -- How long the text of a sheet can be: at most 2266 bytes, so that a page of 4096 holds the whole of it. Assumes nothing.
-use mathlib.Core.Path.{_≡_, refl, ap}
+use mathlib.Core.Path.{_≡_, refl}
 use mathlib.Core.Bool.{Bool, true, false}
 use mathlib.Core.List.{List, [], _∷_}
 use Prim.Native.Nat.{ℕ, zero, suc, _+_, _*_, _≤_, _<_, min}
@@ -26,6 +26,7 @@ use Rattle.steps.specs.Entry.{answered, outcome}
 use Rattle.steps.proofs.Outcomes.{outcome-is, refused-by}
 use Rattle.steps.proofs.Handed.{accepted-bytes}
 use Rattle.sheet_form.specs.Sections.{Reading, fault, sheet, reading}
+use Rattle.sheet_form.proofs.Numbers.{zeros-length}
 use Rattle.sheet_form.proofs.Faults.{FaultMost, reading-most}
 use Rattle.sheet_text.proofs.Short.{Small, AllSmall, fault-short, answer-short}
 use Rattle.sheet_page.specs.Calls.{settingsIn, samplesIn, sheetCall, defaulted, frameLength, sheetOutcome}
@@ -47,11 +48,6 @@ zeros-bytes zero i = sfits-lit tt
 zeros-bytes (suc n) zero = sfits-lit tt
 zeros-bytes (suc n) (suc i) = zeros-bytes n i
 
-zeros-long : (n : ℕ) → length (zeros n) ≡ n
-unfolding zeros
-zeros-long zero = refl
-zeros-long (suc n) = ap suc (zeros-long n)
-
 code-small : (a : Answer) → codeOf a < 100000
 code-small Accepted = omega arith
 code-small Lengths = omega arith
@@ -72,12 +68,12 @@ call-short rule c x n true e =
     let h = accepted-bytes rule c x (zeros n) (zeros-bytes n) z in
     let o = outcome rule c x (zeros n) in
     let k = answer-short (codeOf (o .answer)) (o .seed) (o .pulses) (code-small (o .answer)) (λ q. (byte-small (h .seed-fits), bytes-small (o .pulses) (h .row .bytes))) in
-    omega (arith, k, h .row .long, zeros-long n)
+    omega (arith, k, h .row .long, zeros-length n)
 call-short rule c x n false e =
     let a = answered c x (zeros n) in
     let z : 0 < codeOf a = omega (arith, eqb-false (codeOf a) 0 e) in
     rw (outcome-is rule c x (zeros n), refused-by rule c x (zeros n) a z)
-    (let k = answer-short (codeOf a) (c .settings .Seed) (zeros n) (code-small a) (λ q. absurd (omega arith)) in omega (arith, k, zeros-long n))
+    (let k = answer-short (codeOf a) (c .settings .Seed) (zeros n) (code-small a) (λ q. absurd (omega arith)) in omega (arith, k, zeros-length n))
 
 -- ---- the text of a sheet
 found-short : (rule : Rule) (m : Reading) → FaultMost 11 m → length (foundPage rule m) ≤ 2266
