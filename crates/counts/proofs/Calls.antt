@@ -8,39 +8,21 @@ use mathlib.Core.List.{List}
 use lib.ListN.{length, take, drop}
 use lib.IntN.{ℤ, pos}
 use lib.Dec.{eqb, ltb}
-use borrow.Author.Tests.{ltb-true, ltb-false, not-true, not-false}
+use borrow.Author.Tests.{ltb-true, ltb-false}
 use Rattle.fixed.specs.Iter.{either}
 use Rattle.fixed.specs.Wrap.{wrap16}
 use Rattle.word_steps.specs.Gains.{«inv_gain_Q31», «ltp_scaled_inv_gain»}
 use Rattle.word_steps.specs.Harmonic.{packedGain}
 use Rattle.fixed.specs.Row.{word}
 use Rattle.limits.specs.Count.{natZ, sameZ}
-use Rattle.limits.proofs.Laws.{same-true}
 use Rattle.steps.specs.declared.structs.Given.{Given}
-use Rattle.steps.specs.Call.{Call, voicedBy, interpolatedBy, voicedDelay, quietDelay, delayBy, givenBy, givenOf, countOf, lagBy, lagOf, twiceBy, secondBy, rewhitesBy, sinceBy, rowBy, fixBy, fixOf, halvesBy, rowsBy, rowsOf, whiteBy}
+use Rattle.steps.specs.Call.{Call, voicedBy, voicedDelay, quietDelay, delayBy, givenBy, givenOf, countOf, lagBy, lagOf, twiceBy, secondBy, rewhitesBy, sinceBy, rowBy, fixBy, fixOf, halvesBy, rowsBy, rowsOf, whiteBy}
 use Rattle.steps.proofs.Sound.{rewhites-voiced}
-use Rattle.counts.specs.Agree.{Voiced, OneRow, RowZeroOnly, Agree}
+use Rattle.counts.specs.Agree.{OneRow, RowZeroOnly, Agree}
 use Rattle.counts.proofs.Rows.{either-same, part-word}
-use Rattle.counts.proofs.Refusals.{not-same}
+use Rattle.counts.proofs.Conditions.{is-voiced, not-voiced, voiced-is, quiet-is, two-rows, one-row, zero-only-two, zero-only-rows, no-lag-quiet, no-lag-zero}
 use Rattle.counts.proofs.Sample.{RowsSame}
 use Rattle.counts.proofs.Accepted.{Ready}
-
--- ---- the tests of a call, as conditions
-pub voiced-is : (c : Call) → givenOf c .voiced ≡ true → Voiced c
-unfolding givenBy voicedBy
-voiced-is c e = same-true (c .settings .signalType) (pos 2) e
-
-pub quiet-is : (c : Call) → givenOf c .voiced ≡ false → Voiced c → ⊥
-unfolding givenBy voicedBy
-quiet-is c e = not-same (c .settings .signalType) (pos 2) e
-
-two-rows : (c : Call) → givenOf c .interpolated ≡ true → OneRow c → ⊥
-unfolding givenBy interpolatedBy
-two-rows c e = not-same (c .settings .«NLSFInterpCoef_Q2») (pos 4) (not-true (sameZ (c .settings .«NLSFInterpCoef_Q2») (pos 4)) e)
-
-one-row : (c : Call) → givenOf c .interpolated ≡ false → OneRow c
-unfolding givenBy interpolatedBy
-one-row c e = same-true (c .settings .«NLSFInterpCoef_Q2») (pos 4) (not-false (sameZ (c .settings .«NLSFInterpCoef_Q2») (pos 4)) e)
 
 -- ---- its settings, as given
 pub record Settled (c : Call) (g : Given) : Type 0 where
@@ -99,12 +81,12 @@ unfolding rowBy
 row-is c k Q h few f g = go (givenOf c .interpolated) refl
   where
     go : (b : Bool) → givenOf c .interpolated ≡ b → Q (either b (k / 2) 1)
-    go false e = g (λ z. z .1 (one-row c e))
+    go false e = g (λ z. zero-only-rows c z (one-row c e))
     go true e = half (ltb k 2) refl
       where
         half : (b : Bool) → ltb k 2 ≡ b → Q (k / 2)
         half true q = let z = ltb-true k 2 q in let o : k / 2 ≡ 0 = omega arith in rw o (f (two-rows c e))
-        half false q = let z = ltb-false k 2 q in let o : k / 2 ≡ 1 = omega arith in rw o (g (λ w. absurd (omega (arith, settled c .count, ap natZ (w .0)))))
+        half false q = let z = ltb-false k 2 q in let o : k / 2 ≡ 1 = omega arith in rw o (g (λ w. absurd (omega (arith, settled c .count, ap natZ (zero-only-two c w)))))
 
 -- of the LTP scale the low half is read
 low-scale : (inv a b : ℤ) → wrap16 a ≡ wrap16 b → «ltp_scaled_inv_gain» inv a ≡ «ltp_scaled_inv_gain» inv b
@@ -119,8 +101,8 @@ module _ (c d : Call) (x y p q : List ℤ) (h : Agree c x p d y q) where
       ≡ delayBy (voicedBy (c .settings .signalType)) l n (natZ (d .state .lagPrev)) (d .pitchL)
   unfolding delayBy voicedBy
   delay-same l n =
-      either-same (sameZ (c .settings .signalType) (pos 2)) _ _ _ _ (λ v. ap (voicedDelay l n) (h .lags (same-true _ _ v)))
-      (λ v. ap (λ (z : ℤ). quietDelay l (natZ z)) (h .lagPrev (not-same (c .settings .signalType) (pos 2) v)))
+      either-same (sameZ (c .settings .signalType) (pos 2)) _ _ _ _ (λ v. ap (voicedDelay l n) (h .lags (is-voiced c v)))
+      (λ v. ap (λ (z : ℤ). quietDelay l (natZ z)) (h .lagPrev (not-voiced c v)))
 
   -- all counts
   pub given-same : givenOf d ≡ otherOf c d
@@ -175,8 +157,8 @@ module _ (c d : Call) (x y p q : List ℤ) (h : Agree c x p d y q) where
   harm-same k e = go (givenOf c .voiced) refl e
     where
       go : (v : Bool) → givenOf c .voiced ≡ v → 0 < either v (natZ (word (c .pitchL) k)) (givenOf c .lagPrev) → c .«HarmShapeGain_Q14» ≡ d .«HarmShapeGain_Q14»
-      go true v b = h .harm (λ z. z .0 (voiced-is c v))
-      go false v b = h .harm (λ z. absurd (omega (arith, settled c .lagPrev, ap natZ (z .1))))
+      go true v b = h .harm (λ z. no-lag-quiet c z (voiced-is c v))
+      go false v b = h .harm (λ z. absurd (omega (arith, settled c .lagPrev, ap natZ (no-lag-zero c z))))
 
   -- all that is read of its rows
   pub rows-same : Ready c x p → (k : ℕ) → k < countOf c

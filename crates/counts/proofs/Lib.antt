@@ -1,8 +1,9 @@
--- Rows: rows that agree below a place. Refusals: the number is the same. Sample, Subframe, Flush, Before, Step: what each step of a frame reads, and
+-- Rows: rows that agree below a place. Conditions: of the list. Refusals: the number is the same. Sample, Subframe, Flush, Before, Step: what each step of a frame reads, and
 -- that two frames in work stay equal below a bound. Place: the bounds, subframe by subframe. Prefix: the same for calls that differ in later samples.
 -- Accepted, Calls: what a call that was accepted has, and what two that agree share. Frame, PrefixFrame, Whole: the whole frame.
 -- Theorems: demand 3. Filled: its conditions can be met.
 pub mod Rows
+pub mod Conditions
 pub mod Refusals
 pub mod Sample
 pub mod Subframe

@@ -1,30 +1,17 @@
 -- Calls that agree in what counts get the same number, whatever it is. Assumes nothing.
-use Prim.Native.Nat.{ℕ}
-use native.Mathlib.Omega.{arith}
-use mathlib.Core.Path.{_≡_, refl, sym, ap, _∙_}
-use mathlib.Core.Bool.{true, false, _||_}
+use mathlib.Core.Path.{_≡_, refl, ap, _∙_}
+use mathlib.Core.Bool.{_||_}
 use mathlib.Core.List.{List}
 use lib.IntN.{ℤ, pos}
 use Rattle.limits.specs.Count.{sameZ}
 use Rattle.limits.specs.Tests.{quietLagRefused, someLag, lastOf, lagsRefused}
 use Rattle.refusal_rules.specs.Table.{table, answerOf}
-use Rattle.limits.proofs.Laws.{same-true, same-refl}
 use Rattle.steps.specs.Call.{Call}
 use Rattle.steps.specs.Entry.{answered}
 use Rattle.steps.specs.Sizes.{sizesOf}
-use Rattle.counts.specs.Agree.{Voiced, Agree}
+use Rattle.counts.specs.Agree.{Agree}
+use Rattle.counts.proofs.Conditions.{is-voiced, not-voiced}
 use Rattle.counts.proofs.Rows.{either-same}
-
--- ---- the tests, as conditions
--- the test of type 2 holds, or it fails
-pub is-voiced : (c : Call) → sameZ (c .settings .signalType) (pos 2) ≡ true → Voiced c
-is-voiced c e = same-true (c .settings .signalType) (pos 2) e
-
-pub not-same : (a b : ℤ) → sameZ a b ≡ false → a ≡ b → ⊥
-not-same a b e q = let z : true ≡ false = sym (same-refl b) ∙ ap (λ (v : ℤ). sameZ v b) (sym q) ∙ e in absurd (let w : _≡_ {A = ℕ} 0 1 = cc in omega arith)
-
-pub not-voiced : (c : Call) → sameZ (c .settings .signalType) (pos 2) ≡ false → Voiced c → ⊥
-not-voiced c e = not-same (c .settings .signalType) (pos 2) e
 
 module _ (c d : Call) (x y p q : List ℤ) (h : Agree c x p d y q) where
   -- ---- the lengths of all rows

@@ -2,9 +2,10 @@
 -- everything that is given, but for what that list takes out; nothing is cleared, cut or defaulted first. Assumes nothing.
 use Prim.Native.Nat.{ℕ, _+_, _*_, _<_}
 use mathlib.Core.Path.{_≡_}
+use mathlib.Core.Bool.{true}
 use mathlib.Core.List.{List}
 use lib.ListN.{length}
-use lib.IntN.{ℤ, pos}
+use lib.IntN.{ℤ}
 use Rattle.fixed.specs.Wrap.{wrap16}
 use Rattle.silk.specs.declared.structs.NsqState.{NsqState}
 use Rattle.fixed.specs.Row.{word}
@@ -13,6 +14,7 @@ use Rattle.limits.specs.Count.{natZ}
 use Rattle.limits.specs.Tests.{lastOf}
 use Rattle.steps.specs.Call.{Call}
 use Rattle.steps.specs.Entry.{Outcome}
+use Rattle.counts.specs.Conditions.{voiced, oneRow, rowZeroOnly, noLag}
 
 -- ---- rows
 -- two rows of one length whose first m words are equal
@@ -25,22 +27,22 @@ pub record LowAlike (s t : List ℤ) : Type 0 where
   pub long : length s ≡ length t
   pub words : (i : ℕ) → i < length s → wrap16 (word s i) ≡ wrap16 (word t i)
 
--- ---- conditions of the list
+-- ---- conditions of the list: a test of specs/Conditions.antt holds of the call
 -- a frame of type 2
 abbrev pub Voiced : Call → Type 0
-Voiced c = c .settings .signalType ≡ pos 2
+Voiced c = voiced (c .settings) ≡ true
 
 -- interpolation 4: one row of prediction coefficients for all subframes
 abbrev pub OneRow : Call → Type 0
-OneRow c = c .settings .«NLSFInterpCoef_Q2» ≡ pos 4
+OneRow c = oneRow (c .settings) ≡ true
 
 -- n is 2 and interpolation is not 4: row 1 is not reached
 abbrev pub RowZeroOnly : Call → Type 0
-RowZeroOnly c = (c .settings .«nb_subfr» ≡ pos 2) × (OneRow c → ⊥)
+RowZeroOnly c = rowZeroOnly (c .settings) ≡ true
 
 -- not voiced, and no lag from the frame before
 abbrev pub NoLag : Call → Type 0
-NoLag c = (Voiced c → ⊥) × (c .state .lagPrev ≡ pos 0)
+NoLag c = noLag (c .settings) (c .state .lagPrev) ≡ true
 
 -- ---- the words of a state that count but lagPrev, with L. (A state's rows have one length each: they are arrays of 640, 640 and 96 words.)
 pub record StateAgree (l : ℕ) (s t : NsqState) : Type 0 where
