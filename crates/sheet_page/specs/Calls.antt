@@ -8,9 +8,10 @@ use Rattle.silk.specs.declared.structs.Settings.{Settings}
 use Rattle.silk.specs.State.{zeros, freshState}
 use Rattle.settings_row.specs.Named.{settingsOf}
 use Rattle.limits.specs.Count.{natZ}
+use Rattle.refusal_rules.specs.declared.answer.Answer.{Answer}
 use Rattle.steps.specs.Among.{Rule}
 use Rattle.steps.specs.Call.{Call, callOf}
-use Rattle.steps.specs.Entry.{Outcome, outcome}
+use Rattle.steps.specs.Entry.{Outcome, answered, outcome}
 use Rattle.sheet_form.specs.Sheets.{withDefault}
 
 -- section 1: the twelve settings
@@ -40,6 +41,10 @@ frameLength s = natZ (s .«nb_subfr») * natZ (s .«subfr_length»)
 -- the row that is lent for the pulses: N zeros
 unfoldable pub pulsesFor : Settings → List ℤ
 pulsesFor s = zeros (frameLength s)
+
+-- the number that a sheet's call gets, as an answer
+unfoldable pub sheetAnswer : List (List ℤ) → Answer
+sheetAnswer rows = answered (defaulted (sheetCall rows)) (samplesIn rows) (pulsesFor (settingsIn rows))
 
 -- what comes of a sheet's call
 unfoldable pub sheetOutcome : Rule → List (List ℤ) → Outcome

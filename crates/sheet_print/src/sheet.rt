@@ -58,11 +58,11 @@ fn line16(out: &mut [u8], used: usize, words: [i16; 320], count: usize) -> usize
     }
 }
 
-// The twelve settings on their line.
-fn settings_line(out: &mut [u8], used: usize, s: Settings) -> usize
-    ensures { λ r. ⌜ page r (now (out .exit)) ≡ puts (sectionText (settingsRow s)) (page used (now (out .entry))) ⌝ }
+// The twelve settings as a row.
+pub fn settings_words(s: Settings) -> [i32; 12]
+    ensures { λ r. ⌜ r ≡ settingsRow s ⌝ }
 {
-    let row = [
+    [
         s.subfr_length,
         s.nb_subfr,
         s.predictLPCOrder,
@@ -75,7 +75,14 @@ fn settings_line(out: &mut [u8], used: usize, s: Settings) -> usize
         s.Seed,
         s.Lambda_Q10,
         s.LTP_scale_Q14,
-    ];
+    ]
+}
+
+// The twelve settings on their line.
+fn settings_line(out: &mut [u8], used: usize, s: Settings) -> usize
+    ensures { λ r. ⌜ page r (now (out .exit)) ≡ puts (sectionText (settingsRow s)) (page used (now (out .entry))) ⌝ }
+{
+    let row = settings_words(s);
     row_line(out, used, &row)
 }
 
@@ -118,12 +125,12 @@ fn whole_lines(out: &mut [u8], used: usize, s: Sheet) -> usize
     line32(out, d, words, lags.count)
 }
 
-// A sheet, from the start of the lent buffer on.
-pub fn print(out: &mut [u8], s: Sheet) -> usize
-    ensures { λ r. ⌜ page r (now (out .exit)) ≡ puts (sheetText (rowsOf s)) (page 0 (now (out .entry))) ⌝ }
+// A sheet, after the `used` bytes of the lent buffer.
+pub fn print(out: &mut [u8], used: usize, s: Sheet) -> usize
+    ensures { λ r. ⌜ page r (now (out .exit)) ≡ puts (sheetText (rowsOf s)) (page used (now (out .entry))) ⌝ }
 {
     let settings = s.settings;
-    let a = settings_line(out, 0, settings);
+    let a = settings_line(out, used, settings);
     let b = halves_lines(out, a, s);
     whole_lines(out, b, s)
 }

@@ -32,7 +32,7 @@ returns c =
     let s = a .s in
     w .whole-lines .ensures ∙ ap (puts (sheetText (wholeRows s))) (h .halves-lines .ensures)
     ∙ rows-puts (halfRows s) (wholeRows s) _ ∙ ap (puts (sheetText (halfRows s ++ wholeRows s))) (g .settings-line .ensures)
-    ∙ first-puts (settingsRow (s .settings)) (halfRows s ++ wholeRows s) (page 0 (now (a .out)))
+    ∙ first-puts (settingsRow (s .settings)) (halfRows s ++ wholeRows s) (page (a .used) (now (a .out)))
 
 pub print-spec : {M : Type 1} → statement M
 print-spec =
