@@ -1,0 +1,3 @@
+pub mod Sheets
+pub mod Text
+pub mod Shape
