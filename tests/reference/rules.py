@@ -1,12 +1,14 @@
 #!/usr/bin/env python3
-"""docs/RULES.md as a program, read from that text alone: the quantiser, the excitation at the far end, `sheet` and `hear`.
+"""docs/RULES.md as a program, read from that text alone: the quantiser, the excitation at the far end, `sheet`, `hear`
+and `clean`; only whoever added `clean` knew the reference that its stored sheets come from.
 
     rules.py sheet  < SHEET   prints what `sheet` prints
+    rules.py clean  < SHEET   prints what `clean` prints
     rules.py hear   < SHEET   prints what `hear` prints
     rules.py stream < CALLS   runs a stream of calls (its form stands at "The stream", below)
 
 Each part follows one heading of docs/RULES.md and names it. Plain and slow on purpose: it is meant to be read beside
-the rules. Left out, since none of the three programs prints them: the calls from C, and the report (always 0).
+the rules. Left out, since none of these programs prints them: the calls from C, and the report (always 0).
 """
 
 import re
@@ -715,6 +717,45 @@ class Candidate:
 
 
 # ---------------------------------------------------------------------------------------------------------------
+# What counts
+# ---------------------------------------------------------------------------------------------------------------
+
+
+def prediction_counts(call, place):
+    """Whether this place of `PredCoef_Q12` counts."""
+    row, slot = divmod(place, 16)
+    if slot >= call.predict_order:
+        return False
+    if call.interpolation == 4:
+        return row == 1
+    return row == 0 or call.n == 4
+
+
+def kept(row, counts):
+    """The row with 0 at each place that doesn't count."""
+    return [word if counts(place) else 0 for place, word in enumerate(row)]
+
+
+def what_counts(call, state):
+    """The ten sections of an accepted call, with 0 for what doesn't count and without the bits that don't."""
+    settings = list(call.settings)
+    settings[5] = low(call.warping_Q16)
+    settings[11] = low(call.LTP_scale_Q14) if call.voiced else 0
+    return [
+        settings,
+        call.x16,
+        kept(call.PredCoef_Q12, lambda place: prediction_counts(call, place)),
+        kept(call.LTPCoef_Q14, lambda place: call.voiced),
+        kept(call.AR_Q13, lambda place: place % 24 < call.shaping_order),
+        kept(call.HarmShapeGain_Q14, lambda place: call.voiced or state.lagPrev != 0),
+        [low(tilt) for tilt in call.Tilt_Q14],
+        call.LF_shp_Q14,
+        call.Gains_Q16,
+        kept(call.pitchL, lambda place: call.voiced or place == call.n - 1),
+    ]
+
+
+# ---------------------------------------------------------------------------------------------------------------
 # The far end's excitation
 # ---------------------------------------------------------------------------------------------------------------
 
@@ -827,18 +868,55 @@ def number_lines(numbers):
     return lines
 
 
+def call_of(rows):
+    """The call of a good sheet: path count 0 stands for 2."""
+    settings = list(rows[0])
+    if settings[4] == 0:
+        settings[4] = 2
+    return Call(settings, rows[1:])
+
+
 def sheet_lines(data):
     """What `sheet` prints for these bytes."""
     fault, rows = read_sections(data, SHEET_LAYOUT)
     if fault is not None:
         return [f"sheet fault {fault}"]
-    settings = list(rows[0])
-    if settings[4] == 0:
-        settings[4] = 2  # the default path count
-    answer, seed, _, pulses = quantise(Call(settings, rows[1:]), State())
+    answer, seed, _, pulses = quantise(call_of(rows), State())
     if answer != 0:
         return [f"answer {answer}"]
     return ["answer 0", f"seed {seed}"] + number_lines(pulses)
+
+
+# ---------------------------------------------------------------------------------------------------------------
+# The program `clean`
+# ---------------------------------------------------------------------------------------------------------------
+
+
+def section_lines(rows):
+    """A sheet printed: each section on a line, its count and its numbers."""
+    return [" ".join(str(number) for number in [len(row)] + row) for row in rows]
+
+
+def change_lines(old_rows, new_rows):
+    """Section, place, old and new of each number that changes, in sheet order; a count has no place."""
+    lines = []
+    for section_number, (old_row, new_row) in enumerate(zip(old_rows, new_rows), start=1):
+        for place, (old, new) in enumerate(zip(old_row, new_row), start=1):
+            if old != new:
+                lines.append(f"{section_number} {place} {old} {new}")
+    return lines
+
+
+def clean_pieces(data):
+    """What `clean` prints for these bytes. The bytes of a refused sheet are one piece, ended by a line feed or not."""
+    fault, rows = read_sections(data, SHEET_LAYOUT)
+    if fault is not None:
+        return [f"sheet fault {fault}\n"]
+    answer = answer_of(call_of(rows), State())
+    if answer != 0:
+        return [f"answer {answer}\n", data.decode()]
+    new_rows = what_counts(Call(rows[0], rows[1:]), State())  # a path count 0 counts as 0
+    return ended(change_lines(rows, new_rows) + section_lines(new_rows))
 
 
 # ---------------------------------------------------------------------------------------------------------------
@@ -957,12 +1035,22 @@ def stream_lines(data):
         yield f"full {fnv(all_words(state))}"
 
 
+def ended(lines):
+    """Each line with its line feed."""
+    return (line + "\n" for line in lines)
+
+
 def main():
-    programs = {"sheet": sheet_lines, "hear": hear_lines, "stream": stream_lines}
+    programs = {
+        "sheet": lambda data: ended(sheet_lines(data)),
+        "clean": clean_pieces,
+        "hear": lambda data: ended(hear_lines(data)),
+        "stream": lambda data: ended(stream_lines(data)),
+    }
     if len(sys.argv) != 2 or sys.argv[1] not in programs:
-        sys.exit("usage: rules.py sheet | hear | stream < INPUT")
-    for line in programs[sys.argv[1]](sys.stdin.buffer.read()):
-        sys.stdout.write(line + "\n")
+        sys.exit("usage: rules.py sheet | clean | hear | stream < INPUT")
+    for piece in programs[sys.argv[1]](sys.stdin.buffer.read()):
+        sys.stdout.write(piece)
     sys.stdout.flush()
 
 

@@ -2,7 +2,7 @@
 // voiced and not, rows that differ from each other. The list is on standard input: of each sheet its length, six digits and a line feed, then its
 // bytes. The texts are printed one after the other.
 //
-// The file `stdout` was not made by this program: the stored texts were made with the Rust. tests/sheet_replay.py put both files together.
+// The file `stdout` was not made by this program: the stored texts were made with the Rust. tests/stored_sheets.py put both files together.
 use fixed::wrap;
 use limits::count;
 use sheet_page::page;
