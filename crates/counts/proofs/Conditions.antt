@@ -3,10 +3,11 @@ use Prim.Native.Nat.{ℕ}
 use native.Mathlib.Omega.{arith}
 use mathlib.Core.Path.{_≡_, refl, sym, _∙_}
 use mathlib.Core.Bool.{Bool, true, false, not, _&&_}
-use lib.IntN.{pos}
+use mathlib.Core.Logic.{_↔_}
+use lib.IntN.{ℤ, pos}
 use borrow.Author.Tests.{not-true, not-false}
 use Rattle.limits.specs.Count.{sameZ}
-use Rattle.limits.proofs.Laws.{same-true}
+use Rattle.limits.proofs.Laws.{same-true, same-refl}
 use Rattle.steps.specs.Call.{Call, voicedBy, interpolatedBy, givenBy, givenOf}
 use Rattle.counts.specs.Conditions.{voiced, oneRow, rowZeroOnly, noLag}
 use Rattle.counts.specs.Agree.{Voiced, OneRow, RowZeroOnly, NoLag}
@@ -63,3 +64,39 @@ no-lag-quiet c e = not-both (not-true (voiced (c .settings)) (and-elim _ (sameZ 
 pub no-lag-zero : (c : Call) → NoLag c → c .state .lagPrev ≡ pos 0
 unfolding noLag
 no-lag-zero c e = same-true _ _ (and-elim (not (voiced (c .settings))) _ e .1)
+
+-- ---- each condition holds exactly where its numbers are the ones named
+same-exactly : (a b : ℤ) → (sameZ a b ≡ true) ↔ (a ≡ b)
+same-exactly a b = (same-true a b, λ e. rw e (same-refl b))
+
+pub voiced-exactly : (c : Call) → Voiced c ↔ (c .settings .signalType ≡ pos 2)
+unfolding voiced voicedBy
+voiced-exactly c = same-exactly (c .settings .signalType) (pos 2)
+
+pub one-row-exactly : (c : Call) → OneRow c ↔ (c .settings .«NLSFInterpCoef_Q2» ≡ pos 4)
+unfolding oneRow
+one-row-exactly c = same-exactly (c .settings .«NLSFInterpCoef_Q2») (pos 4)
+
+-- both, the second failing
+both-when : (a b : Bool) → a ≡ true → (b ≡ true → ⊥) → (a && not b) ≡ true
+both-when true true e n = absurd (n refl)
+both-when true false e n = refl
+both-when false b e n = e
+
+pub zero-only-exactly : (c : Call) → RowZeroOnly c ↔ ((c .settings .«nb_subfr» ≡ pos 2) × (OneRow c → ⊥))
+unfolding rowZeroOnly
+zero-only-exactly c = (
+  λ e. (zero-only-two c e, zero-only-rows c e),
+  λ h. both-when (sameZ (c .settings .«nb_subfr») (pos 2)) (oneRow (c .settings)) (same-exactly (c .settings .«nb_subfr») (pos 2) .1 (h .0)) (h .1),
+)
+
+quiet-when : (a b : Bool) → (a ≡ true → ⊥) → b ≡ true → (not a && b) ≡ true
+quiet-when true b n e = absurd (n refl)
+quiet-when false b n e = e
+
+pub no-lag-exactly : (c : Call) → NoLag c ↔ ((Voiced c → ⊥) × (c .state .lagPrev ≡ pos 0))
+unfolding noLag
+no-lag-exactly c = (
+  λ e. (no-lag-quiet c e, no-lag-zero c e),
+  λ h. quiet-when (voiced (c .settings)) (sameZ (c .state .lagPrev) (pos 0)) (h .0) (same-exactly (c .state .lagPrev) (pos 0) .1 (h .1)),
+)
