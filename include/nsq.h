@@ -18,8 +18,8 @@
 #include <stddef.h>
 #include <stdint.h>
 
-/* The version of the library. bindings/rust/Cargo.toml has the same, nsq.pc takes it from here. */
-#define NSQ_VERSION "0.1.0"
+/* The version of the library. bindings/rust/Cargo.toml has the same, nsq.pc takes it from here. 0.2.0: a fresh state has a lag. */
+#define NSQ_VERSION "0.2.0"
 
 /* A call needs at most this many bytes of stack, 48 KB: measured, not proved. On a painted stack (tests/compare/stack.c; calls of every L,
  * voiced and not, each with 1 to 4 paths) nsq_del_dec_report used 44,344 bytes on x86-64, 44,160 on aarch64 and 45,376 on riscv64 (these two
@@ -68,7 +68,7 @@ enum {
     NSQ_SAR2_Q14 = 736,             /* 24 words */
     NSQ_SLF_AR_SHP_Q14 = 760,
     NSQ_SDIFF_SHP_Q14 = 761,
-    NSQ_LAG_PREV = 762,             /* the last lag of the frame before */
+    NSQ_LAG_PREV = 762,             /* the last lag of the frame before, 0 for none; 100 before the first frame */
     NSQ_SLTP_BUF_IDX = 763,         /* this, the next and rewhite_flag are handed out and never read */
     NSQ_SLTP_SHP_BUF_IDX = 764,
     NSQ_PREV_GAIN_Q16 = 765,        /* the last gain of the frame before */
@@ -76,8 +76,12 @@ enum {
     NSQ_WORDS = 767                 /* the length of the row of words */
 };
 
-/* Makes the two rows the state before the first frame: all 0, but the previous gain 65536. Returns 0; or 5, with both rows as they
- * were, where samples_len is not 640 or words_len is not 767. */
+/* Makes the two rows the state before the first frame: all 0, but words[NSQ_LAG_PREV] is 100 and words[NSQ_PREV_GAIN_Q16] is 65536.
+ * Returns 0; or 5, with both rows as they were, where samples_len is not 640 or words_len is not 767.
+ *
+ * The lag is the one from which the encoder of RFC 6716 starts. It is good for every L, so no first frame is refused for it, and the harmonic
+ * gains count in each first frame. Up to version 0.1.0 it was 0: only a first frame that is not voiced and has a harmonic gain other than 0
+ * is coded otherwise since, and none of L 40 with n 2 is. A caller who has to have the old pulses sets words[NSQ_LAG_PREV] to 0. */
 uint32_t nsq_fresh(int16_t *samples, size_t samples_len, int32_t *words, size_t words_len);
 
 /* Codes one frame. Returns one of the numbers above. Accepted: the N pulses are written, samples and words hold the next state, and

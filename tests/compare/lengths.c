@@ -45,7 +45,8 @@ static void set_word(struct row *r, size_t k, size_t place, int32_t value)
     memcpy(r[k].bytes + 4 * place, &value, 4);
 }
 
-/* a good call on a fresh state: all numbers are 0, but the gains, the mark in the two rows that are only written, and behind each row */
+/* a good call on a fresh state: all numbers are 0, but the gains, the state's lag, the mark in the two rows that are only written, and behind
+ * each row */
 static void fill(struct row *r)
 {
     static const size_t sizes[ROWS] = {4, 2, 4, 2, 1, 2, 2, 2, 4, 4, 4, 4, 4, 4}, lens[ROWS] = {12, 640, 767, 80, 80, 32, 10, 48, 2, 2, 2, 2, 2, 1};
@@ -183,6 +184,23 @@ static void same_by_both(void)
     check(pulses > 400, "too few pulses that are not 0", ROWS, PULSES, pulses);
 }
 
+/* what nsq_fresh makes of two rows that hold something else: all 0, but the lag and the gain, and nothing behind them */
+static void fresh_words(struct row *r)
+{
+    memset(r[SAMPLES].bytes, MARK, 2 * ROOM);
+    memset(r[WORDS].bytes, MARK, 4 * ROOM);
+    check(nsq_fresh((void *)r[SAMPLES].bytes, 640, (void *)r[WORDS].bytes, 767) == NSQ_ACCEPTED, "nsq_fresh refused", ROWS, SAMPLES, 640);
+    for (size_t i = 0; i < 2 * ROOM; i++)
+        check(r[SAMPLES].bytes[i] == (i < 2 * 640 ? 0 : MARK), "nsq_fresh: a sample's byte", ROWS, SAMPLES, i);
+    for (size_t i = 0; i < ROOM; i++) {
+        int32_t got, want = i == NSQ_LAG_PREV ? 100 : i == NSQ_PREV_GAIN_Q16 ? 65536 : 0;
+        if (i >= NSQ_WORDS)
+            memset(&want, MARK, 4);
+        memcpy(&got, r[WORDS].bytes + 4 * i, 4);
+        check(got == want, "nsq_fresh: a word", ROWS, WORDS, i);
+    }
+}
+
 int main(void)
 {
     struct row r[ROWS];
@@ -196,6 +214,7 @@ int main(void)
             check(r[PULSES].bytes[i] == 0, "a pulse of silence", entries[e], PULSES, i);
     }
     same_by_both();
+    fresh_words(r);
     check(nsq_fresh(NULL, 0, NULL, 0) == NSQ_BAD_ROW, "nsq_fresh", PLAIN_ROWS, 0, 0);
     check(nsq_fresh((void *)r[SAMPLES].bytes, 639, (void *)r[WORDS].bytes, 767) == NSQ_BAD_ROW, "nsq_fresh", PLAIN_ROWS, SAMPLES, 639);
     check(nsq_fresh((void *)r[SAMPLES].bytes, 640, (void *)r[WORDS].bytes, 768) == NSQ_BAD_ROW, "nsq_fresh", PLAIN_ROWS, WORDS, 768);

@@ -14,8 +14,9 @@ pub const LAG: usize = 2;
 pub const GAIN: usize = 6;
 
 impl State {
+    /// docs/RULES.md, "A fresh state": lagPrev is 100 since request E3, it was 0 before
     pub fn fresh() -> State {
-        State { xq: [0; 640], shp: [0; 640], lpc: [0; 96], ar2: [0; 24], rest: [0, 0, 0, 0, 0, 0, 65536, 0] }
+        State { xq: [0; 640], shp: [0; 640], lpc: [0; 96], ar2: [0; 24], rest: [0, 0, 100, 0, 0, 0, 65536, 0] }
     }
 
     /// all 1408 words in order

@@ -150,14 +150,14 @@ class State:
     """What is taken and handed back. `rand_seed` is no word of the library's: the streams have it, it is kept."""
 
     def __init__(self):
-        """A fresh state."""
+        """A fresh state. Its lagPrev is 100 (request E3; 0 before)."""
         self.xq = [0] * 640
         self.sLTP_shp_Q14 = [0] * 640
         self.sLPC_Q14 = [0] * 96
         self.sAR2_Q14 = [0] * 24
         self.sLF_AR_shp_Q14 = 0
         self.sDiff_shp_Q14 = 0
-        self.lagPrev = 0
+        self.lagPrev = 100
         self.sLTP_buf_idx = 0
         self.sLTP_shp_buf_idx = 0
         self.rand_seed = 0

@@ -207,7 +207,7 @@ impl Default for State {
 }
 
 impl State {
-    /// The state before the first frame.
+    /// The state before the first frame: all 0, but the lag ([`places::LAG_PREV`]) is 100 and the gain ([`places::PREV_GAIN_Q16`]) 65536.
     pub fn fresh() -> State {
         let mut s = State { samples: [0; SAMPLES], words: [0; WORDS] };
         let answer = ffi::fresh(&mut s.samples, &mut s.words);

@@ -4,6 +4,7 @@
 //! ```
 //! use nsq::{places, State};
 //! let state = State::fresh();
+//! assert_eq!(state.words()[places::LAG_PREV], 100);
 //! assert_eq!(state.words()[places::PREV_GAIN_Q16], 65536);
 //! assert_eq!(state.words()[places::SAR2_Q14], [0; 24]);
 //! ```
@@ -19,7 +20,7 @@ pub const SAR2_Q14: Range<usize> = 736..760;
 pub const SLF_AR_SHP_Q14: usize = 760;
 /// The difference that the noise shaping filter is given first.
 pub const SDIFF_SHP_Q14: usize = 761;
-/// The last lag of the frame before.
+/// The last lag of the frame before, 0 for none; 100 before the first frame.
 pub const LAG_PREV: usize = 762;
 /// Handed out and never read.
 pub const SLTP_BUF_IDX: usize = 763;

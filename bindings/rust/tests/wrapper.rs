@@ -80,10 +80,12 @@ fn refused(why: Refusal, state: &State, s: &Settings, own: &Own, pulses: usize) 
 }
 
 #[test]
-fn fresh_is_zero_but_the_gain() {
+fn fresh_is_zero_but_the_lag_and_the_gain() {
     let s = State::fresh();
     assert!(s.samples().iter().all(|&w| w == 0));
-    assert!(s.words().iter().enumerate().all(|(k, &w)| w == if k == places::PREV_GAIN_Q16 { 65536 } else { 0 }));
+    let mut words = [0; WORDS];
+    (words[places::LAG_PREV], words[places::PREV_GAIN_Q16]) = (100, 65536);
+    assert_eq!(s.words(), &words);
     assert_eq!(State::default(), s);
 }
 

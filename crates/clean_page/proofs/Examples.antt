@@ -86,7 +86,7 @@ pub voiced-changes :
 unfolding changes changesFrom changesIn listed cleanedRows sectionsOf sheetCall cleaned cleanedSettings keptAt keptIf placed lowRow voiced oneRow rowZeroOnly noLag voicedBy predCounts row0Counts row1Counts arCounts ltpCounts lagCounts harmCounts settingsOf wrap16 wrapTo freshState freshLag dirty gone ones
 voiced-changes = refl
 
--- not voiced: all of the LTP scale, LTPCoef and the first lag too; and the harmonic gains, since a fresh state has lagPrev 0
+-- not voiced: all of the LTP scale, LTPCoef and the first lag too; not the harmonic gains, since a fresh state has a lag
 pub quiet-changes :
     changes (dirty (pos 0)) (cleanedRows (dirty (pos 0)))
     ≡ (changeOf 1 6 (pos 32768) (negsuc 32767) ∷ changeOf 1 12 (pos 65535) (pos 0) ∷ [])
@@ -95,7 +95,6 @@ pub quiet-changes :
     ++ gone 4 1 10
     ++ gone 5 23 2
     ++ gone 5 47 2
-    ++ gone 6 1 2
     ++ (changeOf 7 1 (negsuc 32768) (pos 32767) ∷ changeOf 10 1 (pos 20) (pos 0) ∷ [])
 unfolding changes changesFrom changesIn listed cleanedRows sectionsOf sheetCall cleaned cleanedSettings keptAt keptIf placed lowRow voiced oneRow rowZeroOnly noLag voicedBy predCounts row0Counts row1Counts arCounts ltpCounts lagCounts harmCounts settingsOf wrap16 wrapTo freshState freshLag dirty gone ones
 quiet-changes = refl

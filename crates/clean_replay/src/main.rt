@@ -2,8 +2,8 @@
 // interpolation, spare slots and upper bits up to the ends of their range, odd spellings, refusals of every number, faults, sheets as long as can be.
 // The list is on standard input: of each sheet its length, six digits and a line feed, then its bytes. The texts are printed one after the other.
 //
-// The file `stdout` was not made by this program: the stored texts were made by a reference of their own, in Python. tests/stored_sheets.py put both
-// files together.
+// The file `stdout` was not made by this program: the stored texts were made by a reference of their own, in Python, for a fresh state with the lag
+// 100 (again for request E3). tests/stored_sheets.py put both files together.
 use clean_page::page;
 use fixed::wrap;
 use limits::count;

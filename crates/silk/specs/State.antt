@@ -10,9 +10,9 @@ use Rattle.silk.specs.declared.structs.NsqState.{NsqState}
 unfoldable pub zeros : ℕ → List ℤ
 zeros n = replicate n (pos 0)
 
--- the lag that a fresh state holds
+-- the lag that a fresh state holds: the one from which the encoder of RFC 6716 starts where it sets its rate (request E3; 0 before that)
 unfoldable pub freshLag : ℤ
-freshLag = pos 0
+freshLag = pos 100
 
 -- all zero but the lag above and the previous gain, which is 1 in Q16
 unfoldable pub freshState : NsqState

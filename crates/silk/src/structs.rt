@@ -46,8 +46,8 @@ impl NsqState {
 
     pub const AR2_LEN: usize = 24;
 
-    // The lag and the gain from which a fresh state starts.
-    pub const FRESH_LAG: i32 = 0;
+    // The lag and the gain from which a fresh state starts. The lag is good for every subframe length; 0 would say that there is none.
+    pub const FRESH_LAG: i32 = 100;
 
     pub const FRESH_GAIN_Q16: i32 = 65536;
 
