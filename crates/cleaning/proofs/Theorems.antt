@@ -35,7 +35,8 @@ use Rattle.cleaning.proofs.Keeps.{InRow0, InRow1, pred0-counts, pred1-c
 row-refl : (m : ℕ) (s : List ℤ) → Alike m s s
 row-refl m s = record { long = refl; words = λ i h. refl }
 
-state-refl : (l : ℕ) (s : NsqState) → StateAgree l s s
+-- a state agrees with itself
+pub state-refl : (l : ℕ) (s : NsqState) → StateAgree l s s
 state-refl l s =
     record {
       xq = row-refl _ (s .xq);
