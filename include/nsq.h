@@ -79,9 +79,10 @@ enum {
 /* Makes the two rows the state before the first frame: all 0, but words[NSQ_LAG_PREV] is 100 and words[NSQ_PREV_GAIN_Q16] is 65536.
  * Returns 0; or 5, with both rows as they were, where samples_len is not 640 or words_len is not 767.
  *
- * The lag is the one from which the encoder of RFC 6716 starts. It is good for every L, so no first frame is refused for it, and the harmonic
- * gains count in each first frame. Up to version 0.1.0 it was 0: only a first frame that is not voiced and has a harmonic gain other than 0
- * is coded otherwise since, and none of L 40 with n 2 is. A caller who has to have the old pulses sets words[NSQ_LAG_PREV] to 0. */
+ * The lag is the one from which the encoder of RFC 6716 starts. It is good for every L, so no first frame is refused for it; and since it is not
+ * 0, the harmonic gains count in each first frame. Up to version 0.1.0 it was 0: of first frames only those that are not voiced and have a
+ * harmonic gain other than 0 can be coded otherwise since, none of them with L 40 and n 2; and where one is, the frames after it in its note
+ * can be too. A caller who has to have the old pulses sets words[NSQ_LAG_PREV] to 0. */
 uint32_t nsq_fresh(int16_t *samples, size_t samples_len, int32_t *words, size_t words_len);
 
 /* Codes one frame. Returns one of the numbers above. Accepted: the N pulses are written, samples and words hold the next state, and

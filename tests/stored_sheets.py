@@ -9,8 +9,8 @@ this project: what `sheet` has to print was made with the Rust, what `clean` has
 
 A sheet starts from a fresh state, and that changed with request E3. So for `sheet_replay` each readable sheet is given to the Rust once more: ORACLE,
 which tools/oracle builds, codes its call from the fresh state of tests/oracle/call.rs, and what it answers is stored. A stored text that was made with
-that state (E3 or later) must be the same, any older one too but in a frame of more than 99 samples that is not voiced and has a harmonic gain; how
-many of those are other than they were is printed.
+that state (E3 or later) must be the same, and so must an older one, except in a frame of more than 99 samples that is not voiced and has a harmonic
+gain; how many of those are other than they were is printed.
 
 Of the sheets with a fault three of each number are taken for `sheet`, the shortest, and all for `clean`; of the others all. A sheet is cut after 65537
 bytes, which is what a program reads of it. On the list it stands after its length, six digits and a line feed; what is printed is one text after the
@@ -24,10 +24,14 @@ import sys
 # Most faults stored for `clean` are sheets after a line `old default` or one like it, to which a later request (E7) gives a meaning: none is left out.
 FAULTS_OF_A_NUMBER = {"sheet_replay": 3, "clean_replay": math.inf}
 MOST_READ = 65537
-# the last request that changed what one of the programs prints, and the one that changed the fresh state
-LANDED = FRESH_LAG = 3
+# the last request that has landed and changed what one of the programs prints
+LANDED = 3
+# the request since which a fresh state has a lag, and the first sample of a frame in which that can be heard
+FRESH_LAG_SINCE = 3
 HEARD_FROM = 99
-PATHS, TYPE, VOICED = 4, 6, 2
+# places of the settings, and the type that is voiced
+PATHS, TYPE = 4, 6
+VOICED = 2
 
 
 def request(answer):
@@ -64,7 +68,7 @@ def by_the_rust(oracle, rows):
 
 
 def can_change(rows):
-    """Can the lag of a fresh state be heard in this frame? Its first sample that can is HEARD_FROM."""
+    """Can the lag of a fresh state be heard in this frame? It can from sample HEARD_FROM on."""
     return rows[0][TYPE] != VOICED and any(rows[5]) and len(rows[1]) > HEARD_FROM
 
 
@@ -76,7 +80,7 @@ def made_again(oracle, pairs):
             rows = rows_of(sheet)
             now = by_the_rust(oracle, rows)
             if now != answer:
-                assert since < FRESH_LAG and can_change(rows), sheet
+                assert since < FRESH_LAG_SINCE and can_change(rows), sheet
                 changed += 1
             answer = now
         yield sheet, answer, since

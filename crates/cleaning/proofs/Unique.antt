@@ -5,26 +5,13 @@ use lib.IntN.{ℤ}
 use denote.Ref.{now}
 use Rattle.silk.specs.declared.structs.NsqState.{NsqState}
 use Rattle.silk.specs.declared.structs.Settings.{Settings}
-use Rattle.silk.specs.State.{freshState}
+use Rattle.silk.specs.State.{freshState, withLag}
 use Rattle.steps.specs.Call.{Call, callOf}
 use Rattle.cleaning.proofs.call.clean.Reads as clean
 
 -- a state with that lagPrev, fresh in all else: the contract speaks of it among others
 abbrev lagged : ℤ → NsqState
-lagged lagPrev =
-    record {
-      xq = freshState .xq;
-      «sLTP_shp_Q14» = freshState .«sLTP_shp_Q14»;
-      «sLPC_Q14» = freshState .«sLPC_Q14»;
-      «sAR2_Q14» = freshState .«sAR2_Q14»;
-      «sLF_AR_shp_Q14» = freshState .«sLF_AR_shp_Q14»;
-      «sDiff_shp_Q14» = freshState .«sDiff_shp_Q14»;
-      lagPrev = lagPrev;
-      «sLTP_buf_idx» = freshState .«sLTP_buf_idx»;
-      «sLTP_shp_buf_idx» = freshState .«sLTP_shp_buf_idx»;
-      «prev_gain_Q16» = freshState .«prev_gain_Q16»;
-      «rewhite_flag» = freshState .«rewhite_flag»;
-    }
+lagged lagPrev = withLag freshState lagPrev
 
 -- the settings and the rows of a call that cleaning may change
 parts : (y : ℤ) {r s : Settings} {p q l m a b h i t u g k : List ℤ} → callOf r (lagged y) p l a h t [] [] g ≡ callOf s (lagged y) q m b i u [] [] k

@@ -1,5 +1,5 @@
 -- First frames computed, whole, on the definition, from a fresh state as it is and as it was before request E3: silence is what it was, and in two
--- frames that are not voiced and have harmonic gains the change is heard, as early as it can be. Assumes nothing.
+-- frames that are not voiced and have harmonic gains the change is heard, in the second as early as it can be. Assumes nothing.
 use mathlib.Core.Path.{_≡_, refl}
 use mathlib.Core.Bool.{true, false}
 use lib.ListN.{take}
@@ -55,8 +55,8 @@ use Rattle.refusal_rules.specs.Code.{codeOf}
 use Rattle.sheet_form.specs.Sheets.{defaultPaths, pathsOf as sheetPaths, withDefault}
 use Rattle.sheet_page.specs.Calls.{sheetCall, defaulted, frameLength, pulsesFor, sheetOutcome}
 use Rattle.neighbours.specs.Neighbours.{sameRow}
-use Rattle.fresh_lag.specs.Lags.{withLag, from, lagged, oldLag, first, firstBefore}
-use Rattle.fresh_lag.specs.Frames.{outcomeBefore, silence, quietSettings, quietCall, steady, steadySamples, parting, partingSamples, pulsesOf}
+use Rattle.fresh_lag.specs.Lags.{from, lagged, oldLag, first, firstBefore}
+use Rattle.fresh_lag.specs.Frames.{outcomeBefore, silence, quietSettings, quietCall, onePath, onePathSamples, fourPaths, fourPathsSamples, pulsesOf}
 
 -- all by one statement:
 pub computed-frames :
@@ -68,13 +68,13 @@ pub computed-frames :
     × (outcomeBefore keepsFirst silence .seed ≡ pos 0)
     × (outcomeBefore keepsFirst silence .pulses ≡ zeros 80)
     -- one path: the first 99 pulses are the same, pulse 99 isn't
-    × (sameRow (take 99 (pulsesOf (first steady) steadySamples)) (take 99 (pulsesOf (firstBefore steady) steadySamples)) ≡ true)
-    × (sameZ (word (pulsesOf (first steady) steadySamples) 99) (word (pulsesOf (firstBefore steady) steadySamples) 99) ≡ false)
-    -- four paths, so that a pulse is handed out D samples before it is decided: pulse 59 = 99 - D isn't the same
-    × (delayOf (first parting) ≡ 40)
-    × (sameZ (word (pulsesOf (first parting) partingSamples) 59) (word (pulsesOf (firstBefore parting) partingSamples) 59) ≡ false)
+    × (sameRow (take 99 (pulsesOf (first onePath) onePathSamples)) (take 99 (pulsesOf (firstBefore onePath) onePathSamples)) ≡ true)
+    × (sameZ (word (pulsesOf (first onePath) onePathSamples) 99) (word (pulsesOf (firstBefore onePath) onePathSamples) 99) ≡ false)
+    -- four paths, so that what comes D samples after a pulse can still decide it: pulse 59 = 99 - D isn't the same
+    × (delayOf (first fourPaths) ≡ 40)
+    × (sameZ (word (pulsesOf (first fourPaths) fourPathsSamples) 59) (word (pulsesOf (firstBefore fourPaths) fourPathsSamples) 59) ≡ false)
     -- both frames are accepted
-    × (codeOf (answered (first steady) steadySamples (zeros 160)) ≡ 0)
-    × (codeOf (answered (first parting) partingSamples (zeros 160)) ≡ 0)
-unfolding sameRow silence outcomeBefore sheetOutcome pulsesFor frameLength defaulted sheetCall withDefault sheetPaths defaultPaths settingsOf withLag from lagged oldLag first firstBefore quietSettings quietCall leadingZeros shr shl32 shr32 rround or32 clz32 wrapTo wrap32 wrap16 wrap8 clamp sat16 minZ abs32 smulbb smlabb smulwb smlawb smulwt smlawt smulww smlaww smmul rand headrm nrm «b32_inv» «lshift_SAT32» shifted «err_Q32» refined «silk_INVERSE32_varQ» «result_1» rest «result_2» «silk_DIV32_varQ» atLeastOne «inv_gain_Q31» «inv_gain_Q26» «x_sc_Q10» «ltp_scaled_inv_gain» «gain_adj_Q16» prediction filtered analysis zeros freshLag freshState shortPrediction longPrediction warpedFilter arTerm lfTerm packedGain shapedLag ltpTerm predicted residual pulseOf xqOut offsetOf turned signedResidual signedExcitation pulseOf-choice seedWith biased «q1_Q0» above atZero atMinusOne below tried withNoise ordered costed choice moved candidateOf termsOf residualOf pairFrom pairOf pair raised takenOwn takenRings taken scaledWords scaledOwn scaledPath leastOf worstOf sameWord raisedUnless penalised swapOf keepsFirst copied replaced movedOver moves pairs-samples takenAll leaving replacing settled tried-samples sample down predicted-paths harmonic common tookFrom took leaves putAt put turn backed backs moveBack subframe filled scaledPaths scaledWork scaled outside lengthAllowed countAllowed orderFor oddZ lengthsRefused ordersRefused pathsRefused kindsRefused eachRefused rowsRefused gainRefused someGain gainsRefused lagRefused quietLagRefused someLag lastOf lagsRefused table answerOf voicedBy interpolatedBy lowered voicedDelay quietDelay delayBy givenBy lagBy twiceBy secondBy rewhitesBy sinceBy rowBy fixBy halvesBy rowsBy whiteBy zeroPath zeroLpcs zeroRings ownFrom startLpc startRings begun bestOf fitMiddle fitLast flushAt flushed raisedPath otherPath othersRaised startPaths start flushedRun middleBy rewhitened refilled whitened regained flushedFirst whitenedFirst before coded step priorBy turnBy run movedDown wordsFrom leftBy endedBy frame sizesOf answered outcomeBy outcome steady steadySamples parting partingSamples
+    × (codeOf (answered (first onePath) onePathSamples (zeros 160)) ≡ 0)
+    × (codeOf (answered (first fourPaths) fourPathsSamples (zeros 160)) ≡ 0)
+unfolding sameRow silence outcomeBefore sheetOutcome pulsesFor frameLength defaulted sheetCall withDefault sheetPaths defaultPaths settingsOf from lagged oldLag first firstBefore quietSettings quietCall leadingZeros shr shl32 shr32 rround or32 clz32 wrapTo wrap32 wrap16 wrap8 clamp sat16 minZ abs32 smulbb smlabb smulwb smlawb smulwt smlawt smulww smlaww smmul rand headrm nrm «b32_inv» «lshift_SAT32» shifted «err_Q32» refined «silk_INVERSE32_varQ» «result_1» rest «result_2» «silk_DIV32_varQ» atLeastOne «inv_gain_Q31» «inv_gain_Q26» «x_sc_Q10» «ltp_scaled_inv_gain» «gain_adj_Q16» prediction filtered analysis zeros freshLag freshState shortPrediction longPrediction warpedFilter arTerm lfTerm packedGain shapedLag ltpTerm predicted residual pulseOf xqOut offsetOf turned signedResidual signedExcitation pulseOf-choice seedWith biased «q1_Q0» above atZero atMinusOne below tried withNoise ordered costed choice moved candidateOf termsOf residualOf pairFrom pairOf pair raised takenOwn takenRings taken scaledWords scaledOwn scaledPath leastOf worstOf sameWord raisedUnless penalised swapOf keepsFirst copied replaced movedOver moves pairs-samples takenAll leaving replacing settled tried-samples sample down predicted-paths harmonic common tookFrom took leaves putAt put turn backed backs moveBack subframe filled scaledPaths scaledWork scaled outside lengthAllowed countAllowed orderFor oddZ lengthsRefused ordersRefused pathsRefused kindsRefused eachRefused rowsRefused gainRefused someGain gainsRefused lagRefused quietLagRefused someLag lastOf lagsRefused table answerOf voicedBy interpolatedBy lowered voicedDelay quietDelay delayBy givenBy lagBy twiceBy secondBy rewhitesBy sinceBy rowBy fixBy halvesBy rowsBy whiteBy zeroPath zeroLpcs zeroRings ownFrom startLpc startRings begun bestOf fitMiddle fitLast flushAt flushed raisedPath otherPath othersRaised startPaths start flushedRun middleBy rewhitened refilled whitened regained flushedFirst whitenedFirst before coded step priorBy turnBy run movedDown wordsFrom leftBy endedBy frame sizesOf answered outcomeBy outcome onePath onePathSamples fourPaths fourPathsSamples
 computed-frames = (refl, refl, refl, refl, refl, refl, refl, refl, refl, refl, refl, refl)

@@ -34,7 +34,7 @@ has-lag s = go (voiced s)
     go false = refl
 
 -- ---- so the harmonic gains count
--- two calls that agree in what counts, of which one starts from a fresh state, have the same ones
+-- two calls that agree in what counts, the first of them from a fresh state, have the same ones
 pub gains-agree : (c d : Call) (x y p q : List ℤ) → c .state .lagPrev ≡ freshLag → Agree c x p d y q → c .«HarmShapeGain_Q14» ≡ d .«HarmShapeGain_Q14»
 gains-agree c d x y p q e h = h .harm (not-both (ap (noLag (c .settings)) e ∙ has-lag (c .settings)))
 
@@ -50,7 +50,7 @@ unfolding cleaned
 gains-kept c e =
     sym (kept-all (harmCounts (c .settings) (c .state .lagPrev)) (c .«HarmShapeGain_Q14») (λ j. ap (λ (l : ℤ). harmCounts (c .settings) l j) e ∙ gains-count (c .settings) j))
 
--- .. of a sheet: section 6 is printed as it was read
+-- .. of a sheet: section 6 has the numbers that were read
 pub section-6-kept : (rows : List (List ℤ)) → getD (cleanedRows rows) 5 [] ≡ getD rows 5 []
 unfolding cleanedRows sectionsOf sheetCall freshState
 section-6-kept rows = gains-kept (sheetCall rows) refl

@@ -16,7 +16,7 @@ use Rattle.refusal_rules.specs.Table.{table, answerOf}
 use Rattle.steps.specs.Call.{Call, lowered, quietDelay, delayBy, givenBy, delayOf}
 use Rattle.steps.specs.Entry.{answered}
 use Rattle.steps.specs.Sizes.{sizesOf}
-use Rattle.fresh_lag.specs.Lags.{withLag, from, lagged, oldLag, first, firstBefore}
+use Rattle.fresh_lag.specs.Lags.{from, lagged, oldLag, first, firstBefore}
 
 -- ---- good for every length
 -- by computing, for each of the three
@@ -45,7 +45,7 @@ allowed : (l n : ℤ) → lengthsRefused l n ≡ false → lengthAllowed l ≡ t
 unfolding lengthsRefused
 allowed l n e = not-false _ (or-false (not (lengthAllowed l)) (not (countAllowed n)) e .0)
 
--- the table of a call, by its lag, from a settings' L that is allowed or refused
+-- the number that the table gives is the same with both lags, whether L is allowed or not
 answer-same : (s : Settings) (z : Sizes) (gain : ℤ) (gains lags : List ℤ) → answerOf s z freshLag gain gains lags ≡ answerOf s z oldLag gain gains lags
 unfolding answerOf table
 answer-same s z gain gains lags = go (lengthsRefused (s .«subfr_length») (s .«nb_subfr»)) refl
@@ -56,7 +56,7 @@ answer-same s z gain gains lags = go (lengthsRefused (s .«subfr_length») (s .�
 
 -- a first frame gets the number that it got before, whatever it is
 pub same-answer : (c : Call) (x p : List ℤ) → answered (first c) x p ≡ answered (firstBefore c) x p
-unfolding answered sizesOf first firstBefore lagged from withLag freshState
+unfolding answered sizesOf first firstBefore lagged from freshState
 same-answer c x p = answer-same (c .settings) (sizesOf c x p) (freshState .«prev_gain_Q16») (c .«Gains_Q16») (c .pitchL)
 
 -- ---- the delay
@@ -65,5 +65,5 @@ delay-of-lag l = omega arith
 
 -- D is what it was
 pub same-delay : (c : Call) → delayOf (first c) ≡ delayOf (firstBefore c)
-unfolding givenBy delayBy quietDelay lowered first firstBefore lagged from withLag freshState freshLag oldLag
+unfolding givenBy delayBy quietDelay lowered first firstBefore lagged from freshState freshLag oldLag
 same-delay c = rw (delay-of-lag _) refl

@@ -10,7 +10,7 @@ use Rattle.steps.specs.Among.{Rule}
 use Rattle.steps.specs.declared.structs.Given.{Given}
 use Rattle.steps.specs.Call.{Call, voicedBy, givenBy, givenOf, delayOf}
 use Rattle.steps.specs.Frame.{Framed, startPaths, start, runBy, run, Done, endedBy, frame}
-use Rattle.fresh_lag.specs.Lags.{withLag, from, lagged}
+use Rattle.fresh_lag.specs.Lags.{from, lagged}
 
 -- what is given, in a frame that is voiced or not, with the lag d
 abbrev pub lagGiven : Bool → Given → ℕ → Given
@@ -35,12 +35,12 @@ lagGiven v g d =
 -- of what is given nothing but the lag is another, where the delays are the same
 given-lagged : (v : Bool) (c : Call) (a b : ℤ) → voicedBy (c .settings .signalType) ≡ v → delayOf (lagged c a) ≡ delayOf (lagged c b)
     → givenOf (lagged c b) ≡ lagGiven v (givenOf (lagged c a)) (natZ b)
-unfolding givenBy lagged from withLag
+unfolding givenBy lagged from
 given-lagged v c a b k e = rw (e, k) refl
 
 -- the start doesn't go by the lag
 start-lagged : (c : Call) (a : ℤ) (p : List ℤ) → start (lagged c a) p ≡ start c p
-unfolding start startPaths givenBy lagged from withLag
+unfolding start startPaths givenBy lagged from
 start-lagged c a p = refl
 
 -- the frame, by what is given
@@ -50,7 +50,7 @@ frameBy rule g c x z =
     (runBy rule g x (c .«PredCoef_Q12») (c .«LTPCoef_Q14») (c .«AR_Q13») (c .«Tilt_Q14») (c .«HarmShapeGain_Q14») (c .«LF_shp_Q14») (c .«Gains_Q16») (c .pitchL) (g .«nb_subfr») z)
 
 frame-lagged : (rule : Rule) (c : Call) (a : ℤ) (x p : List ℤ) → frame rule (lagged c a) x p ≡ frameBy rule (givenOf (lagged c a)) c x (start (lagged c a) p)
-unfolding frame run lagged from withLag
+unfolding frame run lagged from
 frame-lagged rule c a x p = refl
 
 -- the frame of a call with the lag h: that of the call with the lag a, with another lag in what is given

@@ -1,5 +1,5 @@
--- What `sheet` prints since a fresh state has a lag: for silence, and for every sheet whose harmonic gains are 0, what it printed; for others not.
--- Assumes nothing.
+-- What `sheet` prints since a fresh state has a lag: for silence, for every voiced sheet and for every sheet whose harmonic gains are 0 what it printed;
+-- and two calls in which the change is heard. Assumes nothing.
 use Prim.Native.Nat.{ℕ}
 use mathlib.Core.Path.{_≡_, refl, ap, _∙_}
 use mathlib.Core.Bool.{Bool, true, false}
@@ -17,7 +17,7 @@ use Rattle.pages.specs.Decimal.{digitsUpTo, digits, decimal}
 use Rattle.refusal_rules.specs.Code.{codeOf}
 use Rattle.steps.specs.Among.{Rule, keepsFirst}
 use Rattle.steps.specs.Call.{voicedBy}
-use Rattle.steps.specs.Entry.{Outcome}
+use Rattle.steps.specs.Entry.{Outcome, answered}
 use Rattle.sheet_words.specs.Number.{separator, inWord, digit, run, skip, word as wordAt, afterWord, value, decimal as decimalN, magnitude, signed, numberOf, within, inRange, andRest, number}
 use Rattle.sheet_form.specs.Sections.{andThen, before, numbers, section, after, orFault, ended, sections, layout, sheet, reading}
 use Rattle.sheet_text.specs.Text.{answerText, spaced, sectionText, sheetText}
@@ -29,8 +29,8 @@ use Rattle.counts.proofs.Conditions.{not-both}
 use Rattle.cleaning.specs.Cleaned.{keptIf, keptAt, harmCounts, cleanedSettings, cleaned}
 use Rattle.cleaning.proofs.Places.{kept-at}
 use Rattle.clean_page.specs.Sheets.{sectionsOf}
-use Rattle.fresh_lag.specs.Lags.{withLag, from, lagged, oldLag, first, firstBefore, Unchanged, Changed}
-use Rattle.fresh_lag.specs.Frames.{outcomeBefore, textBefore, cleanedBefore, silence, silenceText, quietSettings, quietCall, steady, steadySamples, parting, partingSamples, pulsesOf}
+use Rattle.fresh_lag.specs.Lags.{from, lagged, oldLag, first, firstBefore, Unchanged, Changed}
+use Rattle.fresh_lag.specs.Frames.{outcomeBefore, textBefore, cleanedBefore, silence, silenceText, quietSettings, quietCall, onePath, onePathSamples, fourPaths, fourPathsSamples, pulsesOf}
 use Rattle.fresh_lag.proofs.Theorems.{voiced-unchanged, gainless-unchanged}
 use Rattle.fresh_lag.proofs.Computed.{computed-frames}
 
@@ -76,7 +76,7 @@ gains-cleared s row k v = kept-at (harmCounts s oldLag) row k ∙ rw v refl
 
 -- so for every sheet that `clean` made while a fresh state had no lag
 pub cleaned-before-printed : (rule : Rule) (rows : List (List ℤ)) → foundPage rule (sheet (cleanedBefore rows)) ≡ textBefore rule (cleanedBefore rows)
-unfolding cleanedBefore sectionsOf settingsOf cleaned cleanedSettings firstBefore lagged withLag first from sheetCall
+unfolding cleanedBefore sectionsOf settingsOf cleaned cleanedSettings firstBefore lagged first from sheetCall
 cleaned-before-printed rule rows =
     cases (voicedBy (settingsIn rows .signalType)) (λ v. voiced-sheet rule (cleanedBefore rows) (type-kept v)) (λ v. gainless-sheet rule (cleanedBefore rows) (cleared v))
   where
@@ -87,28 +87,23 @@ cleaned-before-printed rule rows =
     cleared v k = gains-cleared (settingsIn rows) (getD rows 5 []) k v
 
 -- ---- frames in which the change is heard
--- rows that differ in a word are not the same
-differ-at : (s t : List ℤ) (j : ℕ) → sameZ (word s j) (word t j) ≡ false → s ≡ t → ⊥
-differ-at s t j e q = not-both (ap (λ (l : List ℤ). sameZ (word s j) (word l j)) q ∙ e) (same-refl (word s j))
+-- numbers that are not the same
+differ : (y z : ℤ) → sameZ y z ≡ false → y ≡ z → ⊥
+differ y z e q = not-both (ap (λ (w : ℤ). sameZ y w) q ∙ e) (same-refl y)
 
--- with one path the pulses are others from place 99 on
-pub steady-changed : Changed keepsFirst steady steadySamples (zeros 160)
-unfolding voicedBy steady quietCall quietSettings
-steady-changed =
-    record {
-      quiet = refl;
-      gain = λ e. not-both {b = sameZ (pos 16000) (pos 0)} refl (ap (λ (z : ℤ). sameZ z (pos 0)) e);
-      accepted = computed-frames .10;
-      pulses = differ-at (pulsesOf (first steady) steadySamples) (pulsesOf (firstBefore steady) steadySamples) 99 (computed-frames .7);
-    }
+-- a frame with a harmonic gain in all subframes, accepted, whose pulse j is another one
+changed-at : (paths harm gain : ℤ) (x : List ℤ) (j : ℕ) → sameZ harm (pos 0) ≡ false → codeOf (answered (first (quietCall paths harm gain)) x (zeros 160)) ≡ 0
+    → sameZ (word (pulsesOf (first (quietCall paths harm gain)) x) j) (word (pulsesOf (firstBefore (quietCall paths harm gain)) x) j) ≡ false
+    → Changed keepsFirst (quietCall paths harm gain) x (zeros 160) 2 j
+unfolding voicedBy quietCall quietSettings
+changed-at paths harm gain x j g a e = record { quiet = refl; gain = differ harm (pos 0) g; accepted = a; pulse = differ _ _ e }
 
--- with four paths from place 59 on, which is 99 - D: so the bound of `early-unchanged` can't be moved by one
-pub parting-changed : Changed keepsFirst parting partingSamples (zeros 160)
-unfolding voicedBy parting quietCall quietSettings
-parting-changed =
-    record {
-      quiet = refl;
-      gain = λ e. not-both {b = sameZ (pos 32767) (pos 0)} refl (ap (λ (z : ℤ). sameZ z (pos 0)) e);
-      accepted = computed-frames .11;
-      pulses = differ-at (pulsesOf (first parting) partingSamples) (pulsesOf (firstBefore parting) partingSamples) 59 (computed-frames .9);
-    }
+-- with one path pulse 99 is another one; sample 99 stands in subframe 2. (The pulses before it are the same: `computed-frames`.)
+pub one-path-changed : Changed keepsFirst onePath onePathSamples (zeros 160) 2 99
+unfolding onePath
+one-path-changed = changed-at _ _ _ onePathSamples 99 refl (computed-frames .10) (computed-frames .7)
+
+-- with four paths pulse 59 is another one, and 59 is 99 - D: so the bound of `early-unchanged` can't be moved by one
+pub four-paths-changed : Changed keepsFirst fourPaths fourPathsSamples (zeros 160) 2 59
+unfolding fourPaths
+four-paths-changed = changed-at _ _ _ fourPathsSamples 59 refl (computed-frames .11) (computed-frames .9)

@@ -21,14 +21,14 @@ use Rattle.steps.specs.Entry.{Outcome, taken, untouched, answered, outcome}
 use Rattle.steps.specs.Frame.{frame}
 use Rattle.steps.proofs.Outcomes.{outcome-is, accepted-by, refused-by}
 use Rattle.counts.proofs.Rows.{Below, below-at}
-use Rattle.fresh_lag.specs.Lags.{withLag, from, lagged, oldLag, first, firstBefore, heardFrom, Unchanged}
+use Rattle.fresh_lag.specs.Lags.{from, lagged, oldLag, first, firstBefore, heardFrom, Unchanged}
 use Rattle.fresh_lag.proofs.Good.{same-answer, same-delay}
 use Rattle.fresh_lag.proofs.VoicedFrame.{voiced-frame}
 use Rattle.fresh_lag.proofs.UnheardFrame.{gainless-frame, silent-frame, silent-early}
 
 -- a fresh state holds today's lag
 fresh-is : (c : Call) → lagged (first c) freshLag ≡ first c
-unfolding lagged first from withLag freshState
+unfolding lagged first from freshState
 fresh-is c = refl
 
 before-is : (c : Call) → firstBefore c ≡ lagged (first c) oldLag
@@ -132,7 +132,7 @@ module _ (rule : Rule) (c : Call) (x p : List ℤ) where
   unfolding first from givenBy heardFrom freshLag
   forty-by-two-unchanged l n = short-unchanged (rw (l, n) (omega arith))
 
-  -- in every frame the pulses of an accepted call that are handed out before anything can be heard
+  -- in a frame that is not voiced the pulses of an accepted call that are decided before anything can be heard
   early-below : codeOf (answered (first c) x p) ≡ 0 → voicedBy (c .settings .signalType) ≡ false
       → Below (heardFrom - delayOf (first c)) (outcome rule (first c) x p .pulses) (outcome rule (firstBefore c) x p .pulses)
   unfolding first from

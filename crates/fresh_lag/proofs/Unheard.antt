@@ -1,4 +1,4 @@
--- A lag that isn't heard, in a subframe: where a frame isn't voiced, the lag enters only the harmonic term, so two subframes with other lags do the
+-- A lag that isn't heard, in a subframe: where a frame isn't voiced, the lag enters only the harmonic term, so two subframes with different lags do the
 -- same as long as that term is 0 under both. Assumes nothing.
 use Prim.Native.Nat.{ℕ, suc, _+_, _-_, _*_, _<_, _≤_}
 use native.Mathlib.Omega.{arith}
@@ -161,8 +161,8 @@ step-quiet rule f d v x gain1 inv t = refl
 
 -- ---- a subframe with the lags d and e, whose terms are 0 before sample t of the frame
 module _ (Q : List ℤ → Type 0) (rule : Rule) (f : Fix) (v : Rows) (x : List ℤ) (d e t : ℕ) (k : Kept (f .«subfr_length») Q)
-    (none : Unheard Q (f .«subfr_length») (f .base) (v .half .«HarmShapeFIRPacked_Q14») d t)
-    (nor : Unheard Q (f .«subfr_length») (f .base) (v .half .«HarmShapeFIRPacked_Q14») e t) where
+    (zeroWithD : Unheard Q (f .«subfr_length») (f .base) (v .half .«HarmShapeFIRPacked_Q14») d t)
+    (zeroWithE : Unheard Q (f .«subfr_length») (f .base) (v .half .«HarmShapeFIRPacked_Q14») e t) where
   -- a sample writes no pulse before its own place less the delay
   turn-out : (i : ℕ) {b : ℕ} → b ≤ f .base + i - f .decisionDelay → (r s : Running) → Below b (r .pulses) (s .pulses)
       → Below b (turn rule (quiet f d) v x i r .pulses) (turn rule (quiet f e) v x i s .pulses)
@@ -189,7 +189,7 @@ module _ (Q : List ℤ → Type 0) (rule : Rule) (f : Fix) (v : Rows) (x : List 
         pre =
             pre-step runOut runOut (turn rule (quiet f d) v x i) (turn rule (quiet f e) v x i) (omega arith)
             (λ z q.
-            turn-quiet rule f d e v x i r (common-quiet f d e v x i r (none i h (omega arith) (r .«sLTP_shp_Q14») (a .kept)) (nor i h (omega arith) (r .«sLTP_shp_Q14») (a .kept)))
+            turn-quiet rule f d e v x i r (common-quiet f d e v x i r (zeroWithD i h (omega arith) (r .«sLTP_shp_Q14») (a .kept)) (zeroWithE i h (omega arith) (r .«sLTP_shp_Q14») (a .kept)))
             ∙ ap (turn rule (quiet f e) v x i) q)
             (λ z q. turn-out i (omega arith) r s q) (a .pre);
         kept = turn-kept i r (a .kept);

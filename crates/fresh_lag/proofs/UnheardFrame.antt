@@ -24,7 +24,7 @@ use Rattle.counts.proofs.Rows.{Below, below-refl}
 use Rattle.counts.proofs.Flush.{flush-past}
 use Rattle.counts.proofs.Prefix.{Pre, pre-step, frameOut}
 use Rattle.counts.proofs.Frame.{turn-is, ended-is}
-use Rattle.fresh_lag.specs.Lags.{withLag, from, lagged}
+use Rattle.fresh_lag.specs.Lags.{from, lagged}
 use Rattle.fresh_lag.proofs.Lagged.{lagGiven, frameBy, frame-at}
 use Rattle.fresh_lag.proofs.Unheard.{quiet, Kept, Unheard, Along, frameShaped, step-along}
 use Rattle.fresh_lag.proofs.NoTerm.{AnyRow, any-kept, gainless-unheard, Silent, silent-kept, silent-unheard}
@@ -64,8 +64,8 @@ doneOut o = o .pulses
 
 -- ---- all subframes with the lags d and e, whose terms are 0 before sample t
 module _ (Q : List ℤ → Type 0) (rule : Rule) (g : Given) (c : Call) (x : List ℤ) (d e t : ℕ) (keeps : Kept (g .«subfr_length») Q)
-    (none : (k : ℕ) → k < g .«nb_subfr» → Unheard Q (g .«subfr_length») (k * g .«subfr_length») (packedGain (word (c .«HarmShapeGain_Q14») k)) d t)
-    (nor : (k : ℕ) → k < g .«nb_subfr» → Unheard Q (g .«subfr_length») (k * g .«subfr_length») (packedGain (word (c .«HarmShapeGain_Q14») k)) e t) where
+    (zeroFirst : (k : ℕ) → k < g .«nb_subfr» → Unheard Q (g .«subfr_length») (k * g .«subfr_length») (packedGain (word (c .«HarmShapeGain_Q14») k)) d t)
+    (zeroSecond : (k : ℕ) → k < g .«nb_subfr» → Unheard Q (g .«subfr_length») (k * g .«subfr_length») (packedGain (word (c .«HarmShapeGain_Q14») k)) e t) where
   -- subframe k with the lag h
   abbrev turnWith : ℕ → ℕ → Framed → Framed
   turnWith h =
@@ -94,7 +94,7 @@ module _ (Q : List ℤ → Type 0) (rule : Rule) (g : Given) (c : Call) (x : Lis
       (step rule (quiet (fixWith k) d) (rowsWith k) x false false (word (c .«Gains_Q16») 1) inv r)
       (step rule (quiet (fixWith k) e) (rowsWith k) x false false (word (c .«Gains_Q16») 1) inv′ s)
   unfolding fixBy rowsBy halvesBy
-  step-by k b inv inv′ r s a = step-along Q rule (fixWith k) (rowsWith k) x d e t keeps (none k b) (nor k b) (word (c .«Gains_Q16») 1) inv inv′ r s a
+  step-by k b inv inv′ r s a = step-along Q rule (fixWith k) (rowsWith k) x d e t keeps (zeroFirst k b) (zeroSecond k b) (word (c .«Gains_Q16») 1) inv inv′ r s a
 
   turn-along : (k : ℕ) → k < g .«nb_subfr» → (r s : Framed) → Along Q frameOut frameShaped (t - g .delay) t (k * g .«subfr_length») r s
       → Along Q frameOut frameShaped (t - g .delay) t (suc k * g .«subfr_length») (turnWith d k r) (turnWith e k s)
@@ -125,23 +125,23 @@ module _ (Q : List ℤ → Type 0) (rule : Rule) (g : Given) (c : Call) (x : Lis
 -- ---- two calls that differ only in lagPrev, in a frame that isn't voiced and with one decision delay
 module _ (Q : List ℤ → Type 0) (rule : Rule) (c : Call) (a b : ℤ) (x p : List ℤ) (t : ℕ) (unvoiced : voicedBy (c .settings .signalType) ≡ false)
     (delays : delayOf (lagged c a) ≡ delayOf (lagged c b)) (keeps : Kept (lengthOf c) Q) (holds : Q (c .state .«sLTP_shp_Q14»))
-    (none : (k : ℕ) → k < countOf c → Unheard Q (lengthOf c) (k * lengthOf c) (packedGain (word (c .«HarmShapeGain_Q14») k)) (natZ a) t)
-    (nor : (k : ℕ) → k < countOf c → Unheard Q (lengthOf c) (k * lengthOf c) (packedGain (word (c .«HarmShapeGain_Q14») k)) (natZ b) t) where
+    (zeroFirst : (k : ℕ) → k < countOf c → Unheard Q (lengthOf c) (k * lengthOf c) (packedGain (word (c .«HarmShapeGain_Q14») k)) (natZ a) t)
+    (zeroSecond : (k : ℕ) → k < countOf c → Unheard Q (lengthOf c) (k * lengthOf c) (packedGain (word (c .«HarmShapeGain_Q14») k)) (natZ b) t) where
   start-kept : Q (start c p .run .«sLTP_shp_Q14»)
   unfolding start
   start-kept = holds
 
   frame-pre : Pre doneOut (t - delayOf (lagged c a)) t (countOf c * lengthOf c)
       (frameBy rule (hushed (givenOf (lagged c a)) (natZ a)) c x (start c p)) (frameBy rule (hushed (givenOf (lagged c a)) (natZ b)) c x (start c p))
-  unfolding givenBy lagged from withLag
-  frame-pre = frame-by Q rule (givenOf (lagged c a)) c x (natZ a) (natZ b) t keeps none nor (start c p) start-kept
+  unfolding givenBy lagged from
+  frame-pre = frame-by Q rule (givenOf (lagged c a)) c x (natZ a) (natZ b) t keeps zeroFirst zeroSecond (start c p) start-kept
 
   -- where the terms are 0 in all of the frame, both calls come to the same
-  pub whole : countOf c * lengthOf c ≤ t → frame rule (lagged c a) x p ≡ frame rule (lagged c b) x p
+  whole : countOf c * lengthOf c ≤ t → frame rule (lagged c a) x p ≡ frame rule (lagged c b) x p
   whole h = frame-at rule false c a a x p unvoiced refl ∙ frame-pre .same h ∙ sym (frame-at rule false c a b x p unvoiced delays)
 
   -- where they are 0 before sample t, the pulses below t less the delay are the same
-  pub early : Below (t - delayOf (lagged c a)) (frame rule (lagged c a) x p .pulses) (frame rule (lagged c b) x p .pulses)
+  early : Below (t - delayOf (lagged c a)) (frame rule (lagged c a) x p .pulses) (frame rule (lagged c b) x p .pulses)
   early = rw (frame-at rule false c a a x p unvoiced refl, frame-at rule false c a b x p unvoiced delays) (frame-pre .out)
 
 -- ---- two cases
@@ -158,16 +158,16 @@ gainless-frame rule c a b x p unvoiced delays gains =
 -- the frame has no more than t samples, all that both calls come to
 module _ (rule : Rule) (c : Call) (a b : ℤ) (x p : List ℤ) (t : ℕ) (unvoiced : voicedBy (c .settings .signalType) ≡ false)
     (delays : delayOf (lagged c a) ≡ delayOf (lagged c b)) (silent : (j : ℕ) → j < 4 * lengthOf c → word (c .state .«sLTP_shp_Q14») j ≡ pos 0)
-    (above : 0 < natZ a → t < natZ a) (over : 0 < natZ b → t < natZ b) where
+    (belowFirst : 0 < natZ a → t < natZ a) (belowSecond : 0 < natZ b → t < natZ b) where
   unheard : (d : ℕ) → (0 < d → t < d) → (k : ℕ) → k < countOf c → Unheard (Silent (lengthOf c)) (lengthOf c) (k * lengthOf c) (packedGain (word (c .«HarmShapeGain_Q14») k)) d t
   unheard d e k h = silent-unheard (packedGain (word (c .«HarmShapeGain_Q14») k)) (lengthOf c) (k * lengthOf c) d t e
 
   -- the whole frame
   pub silent-frame : countOf c * lengthOf c ≤ t → frame rule (lagged c a) x p ≡ frame rule (lagged c b) x p
   silent-frame h =
-      whole (Silent (lengthOf c)) rule c a b x p t unvoiced delays (silent-kept (lengthOf c)) silent (unheard (natZ a) above) (unheard (natZ b) over) h
+      whole (Silent (lengthOf c)) rule c a b x p t unvoiced delays (silent-kept (lengthOf c)) silent (unheard (natZ a) belowFirst) (unheard (natZ b) belowSecond) h
 
   -- its first pulses
   pub silent-early : Below (t - delayOf (lagged c a)) (frame rule (lagged c a) x p .pulses) (frame rule (lagged c b) x p .pulses)
   silent-early =
-      early (Silent (lengthOf c)) rule c a b x p t unvoiced delays (silent-kept (lengthOf c)) silent (unheard (natZ a) above) (unheard (natZ b) over)
+      early (Silent (lengthOf c)) rule c a b x p t unvoiced delays (silent-kept (lengthOf c)) silent (unheard (natZ a) belowFirst) (unheard (natZ b) belowSecond)

@@ -9,12 +9,12 @@ use Rattle.steps.specs.Among.{Rule}
 use Rattle.steps.specs.declared.structs.Given.{Given}
 use Rattle.steps.specs.Call.{Call, voicedBy, delayBy, givenBy, givenOf, delayOf, lagBy, twiceBy, secondBy, rewhitesBy, sinceBy, rowBy, fixBy, halvesBy, rowsBy, whiteBy}
 use Rattle.steps.specs.Frame.{Framed, start, priorBy, turnBy, leftBy, endedBy, frame}
-use Rattle.fresh_lag.specs.Lags.{withLag, from, lagged}
+use Rattle.fresh_lag.specs.Lags.{from, lagged}
 use Rattle.fresh_lag.proofs.Lagged.{lagGiven, frameBy, frame-at}
 
 -- the delay goes by the lags of the row
 delays-voiced : (c : Call) (a b : ℤ) → voicedBy (c .settings .signalType) ≡ true → delayOf (lagged c a) ≡ delayOf (lagged c b)
-unfolding givenBy delayBy lagged from withLag
+unfolding givenBy delayBy lagged from
 delays-voiced c a b v = rw v refl
 
 -- and so does the frame

@@ -50,7 +50,7 @@ unfoldable pub silenceText : List ℕ
 silenceText = acceptedText (pos 0) (zeros 80)
 
 -- ---- two frames with L 40 and n 4, not voiced, in which the lag of the fresh state is heard
--- so many paths, interpolation 4, shaping order 2, all else 0
+-- L 40, n 4, prediction order 10, shaping order 2, so many paths, interpolation 4, all else 0
 unfoldable pub quietSettings : ℤ → Settings
 quietSettings paths =
     record {
@@ -73,21 +73,21 @@ unfoldable pub quietCall : ℤ → ℤ → ℤ → Call
 quietCall paths harm gain =
     callOf (quietSettings paths) freshState (zeros 32) (zeros 20) (zeros 96) (replicate 4 harm) (zeros 4) (zeros 4) (replicate 4 gain) (zeros 4)
 
--- one path, and 160 samples of 4
-unfoldable pub steady : Call
-steady = quietCall (pos 1) (pos 16000) (pos 196608)
+-- one path, harmonic gains of 16000, gains of 3 in Q16
+unfoldable pub onePath : Call
+onePath = quietCall (pos 1) (pos 16000) (pos 196608)
 
--- its samples
-unfoldable pub steadySamples : List ℤ
-steadySamples = replicate 160 (pos 4)
+-- its samples: 160 times 4
+unfoldable pub onePathSamples : List ℤ
+onePathSamples = replicate 160 (pos 4)
 
--- four paths, and samples on which they part
-unfoldable pub parting : Call
-parting = quietCall (pos 4) (pos 32767) (pos 196608)
+-- four paths, harmonic gains of 32767, the same gains
+unfoldable pub fourPaths : Call
+fourPaths = quietCall (pos 4) (pos 32767) (pos 196608)
 
--- its samples
-unfoldable pub partingSamples : List ℤ
-partingSamples =
+-- its samples, on which the paths part
+unfoldable pub fourPathsSamples : List ℤ
+fourPathsSamples =
     negsuc 3 ∷ pos 4 ∷ pos 6 ∷ pos 8 ∷ negsuc 1 ∷ pos 2 ∷ pos 8 ∷ pos 2 ∷ negsuc 7 ∷ pos 2 ∷ negsuc 1 ∷ pos 2 ∷ negsuc 1 ∷ negsuc 3 ∷ pos 6 ∷ pos 8 ∷
     negsuc 3 ∷ pos 0 ∷ negsuc 1 ∷ pos 2 ∷ negsuc 5 ∷ negsuc 5 ∷ pos 6 ∷ pos 4 ∷ negsuc 7 ∷ pos 0 ∷ pos 4 ∷ pos 4 ∷ pos 8 ∷ negsuc 3 ∷ negsuc 5 ∷ pos 6 ∷
     pos 8 ∷ pos 0 ∷ negsuc 3 ∷ pos 4 ∷ pos 4 ∷ negsuc 1 ∷ negsuc 5 ∷ pos 0 ∷ negsuc 1 ∷ negsuc 5 ∷ pos 0 ∷ negsuc 1 ∷ negsuc 5 ∷ pos 0 ∷ pos 2 ∷ pos 2 ∷

@@ -5,30 +5,13 @@ use mathlib.Core.Bool.{false}
 use mathlib.Core.List.{List}
 use lib.IntN.{ℤ, pos}
 use Rattle.fixed.specs.Row.{word}
-use Rattle.silk.specs.State.{freshLag, freshState}
+use Rattle.silk.specs.State.{freshLag, freshState, withLag}
 use Rattle.silk.specs.declared.structs.NsqState.{NsqState}
 use Rattle.limits.specs.Count.{natZ}
 use Rattle.refusal_rules.specs.Code.{codeOf}
 use Rattle.steps.specs.Among.{Rule}
 use Rattle.steps.specs.Call.{Call, callOf, voicedBy}
 use Rattle.steps.specs.Entry.{answered, outcome}
-
--- a state with another lagPrev
-unfoldable pub withLag : NsqState → ℤ → NsqState
-withLag z lag =
-    record {
-      xq = z .xq;
-      «sLTP_shp_Q14» = z .«sLTP_shp_Q14»;
-      «sLPC_Q14» = z .«sLPC_Q14»;
-      «sAR2_Q14» = z .«sAR2_Q14»;
-      «sLF_AR_shp_Q14» = z .«sLF_AR_shp_Q14»;
-      «sDiff_shp_Q14» = z .«sDiff_shp_Q14»;
-      lagPrev = lag;
-      «sLTP_buf_idx» = z .«sLTP_buf_idx»;
-      «sLTP_shp_buf_idx» = z .«sLTP_shp_buf_idx»;
-      «prev_gain_Q16» = z .«prev_gain_Q16»;
-      «rewhite_flag» = z .«rewhite_flag»;
-    }
 
 -- a call from another state
 unfoldable pub from : NsqState → Call → Call
@@ -66,9 +49,9 @@ pub record Unchanged (rule : Rule) (c : Call) (x p : List ℤ) : Type 0 where
   pub seed : outcome rule (first c) x p .seed ≡ outcome rule (firstBefore c) x p .seed
   pub state : codeOf (outcome rule (first c) x p .answer) ≡ 0 → outcome rule (first c) x p .state ≡ outcome rule (firstBefore c) x p .state
 
--- .. or it doesn't: a frame that is not voiced, whose first harmonic gain is not 0, and that is accepted and has other pulses than before
-pub record Changed (rule : Rule) (c : Call) (x p : List ℤ) : Type 0 where
+-- .. or it doesn't: a frame that is not voiced, whose harmonic gain in subframe k is not 0, that is accepted, and whose pulse j is another one than before
+pub record Changed (rule : Rule) (c : Call) (x p : List ℤ) (k j : ℕ) : Type 0 where
   pub quiet : voicedBy (c .settings .signalType) ≡ false
-  pub gain : word (c .«HarmShapeGain_Q14») 0 ≡ pos 0 → ⊥
+  pub gain : word (c .«HarmShapeGain_Q14») k ≡ pos 0 → ⊥
   pub accepted : codeOf (answered (first c) x p) ≡ 0
-  pub pulses : outcome rule (first c) x p .pulses ≡ outcome rule (firstBefore c) x p .pulses → ⊥
+  pub pulse : word (outcome rule (first c) x p .pulses) j ≡ word (outcome rule (firstBefore c) x p .pulses) j → ⊥

@@ -2,8 +2,8 @@
 // voiced and not, rows that differ from each other. The list is on standard input: of each sheet its length, six digits and a line feed, then its
 // bytes. The texts are printed one after the other.
 //
-// The file `stdout` was not made by this program: the Rust answered, from a fresh state with the lag 100 (again for request E3).
-// tests/stored_sheets.py asked it and put both files together.
+// The file `stdout` was not made by this program: the Rust answered, from a fresh state with the lag 100 (again for request E3); the lines
+// of faults are as they were stored. tests/stored_sheets.py asked the Rust and put both files together.
 use fixed::wrap;
 use limits::count;
 use sheet_page::page;

@@ -1,4 +1,5 @@
--- The quantiser's state before the first frame: docs/RULES.md, "What a call is given". The record is that of src/structs.rt.
+-- The quantiser's state before the first frame: docs/RULES.md, "What a call is given"; and a state with another lag. The record is that of
+-- src/structs.rt.
 -- Assumes nothing.
 use Prim.Native.Nat.{ℕ}
 use mathlib.Core.List.{List}
@@ -29,4 +30,21 @@ freshState =
       «sLTP_shp_buf_idx» = pos 0;
       «prev_gain_Q16» = pos 65536;
       «rewhite_flag» = pos 0;
+    }
+
+-- a state with another lagPrev
+abbrev pub withLag : NsqState → ℤ → NsqState
+withLag z lag =
+    record {
+      xq = z .xq;
+      «sLTP_shp_Q14» = z .«sLTP_shp_Q14»;
+      «sLPC_Q14» = z .«sLPC_Q14»;
+      «sAR2_Q14» = z .«sAR2_Q14»;
+      «sLF_AR_shp_Q14» = z .«sLF_AR_shp_Q14»;
+      «sDiff_shp_Q14» = z .«sDiff_shp_Q14»;
+      lagPrev = lag;
+      «sLTP_buf_idx» = z .«sLTP_buf_idx»;
+      «sLTP_shp_buf_idx» = z .«sLTP_shp_buf_idx»;
+      «prev_gain_Q16» = z .«prev_gain_Q16»;
+      «rewhite_flag» = z .«rewhite_flag»;
     }
