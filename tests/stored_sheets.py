@@ -80,7 +80,8 @@ def made_again(oracle, pairs):
             rows = rows_of(sheet)
             now = by_the_rust(oracle, rows)
             if now != answer:
-                assert since < FRESH_LAG_SINCE and can_change(rows), sheet
+                if since >= FRESH_LAG_SINCE or not can_change(rows):
+                    sys.exit("the Rust answers otherwise than the stored text says:\n" + sheet.decode())
                 changed += 1
             answer = now
         yield sheet, answer, since

@@ -13,6 +13,7 @@ use Rattle.fixed.proofs.Iters.{iter-rel}
 use Rattle.fixed.proofs.Each.{eachTurn, each-long, each-in}
 use Rattle.limits.specs.Count.{natZ}
 use Rattle.silk.specs.State.{zeros}
+use Rattle.silk.proofs.Zeros.{zeros-word}
 use Rattle.path.specs.declared.structs.Path.{Path}
 use Rattle.path.specs.Data.{noPath, Paths, paths, ringRandState, ringQ, ringPred}
 use Rattle.steps.specs.Begin.{zeroPath, zeroLpcs, zeroRings, ownFrom, startLpc, startRings, beginTurn, begun}
@@ -28,10 +29,6 @@ use Rattle.belongs.proofs.Noted.{Room}
 use Rattle.belongs.proofs.Held.{Ledger, ownOf, usedOf, PathIs, Held}
 
 -- ---- zeros
-zeros-at : (n i : ℕ) → i < n → word (zeros n) i ≡ pos 0
-unfolding zeros
-zeros-at n i h = getD-replicate n i (pos 0) (pos 0) h
-
 zeros-long : (n : ℕ) → length (zeros n) ≡ n
 unfolding zeros
 zeros-long n = length-replicate n (pos 0)
@@ -131,7 +128,7 @@ module _ (ar2 : List ℤ) (lf diff : ℤ) (lpc : List ℤ) (shape : ℤ) (seed n
         init = ap (λ (z : Path). z .«SeedInit») (own-at k h) ∙ ow .1 .0;
         seed = ap (λ (z : Path). z .«Seed») (own-at k h) ∙ ow .0 ∙ sym (trail-0 (pos ((k + seed) % 4)) own);
         marks = λ y a c. absurd (omega arith);
-        blank = λ y a c. ap (λ (z : List ℤ). word z (place y)) (r .marks) ∙ zeros-at 40 (place y) (omega arith);
+        blank = λ y a c. ap (λ (z : List ℤ). word z (place y)) (r .marks) ∙ zeros-word 40 (place y);
         levels = λ y a c. absurd (omega arith);
         exact = λ y a. absurd (omega arith);
       }

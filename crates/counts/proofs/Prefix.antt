@@ -41,12 +41,14 @@ pre-step p q F G {b} {t} {g} {g′} {r} {s} le e h k = record { same = λ z. e z
     go true c = let z = leb-true g′ t c in eq-out q (e z (k .same (omega arith)))
     go false c = h (leb-false g′ t c) (k .out)
 
-emit-past : (now : Bool) {b : ℕ} {r s : List ℤ} (p : ℕ) (v w : ℤ) → b ≤ p → Below b r s → Below b (emit now r p v) (emit now s p w)
+-- a word written at b or later keeps rows that are equal below b
+pub emit-past : (now : Bool) {b : ℕ} {r s : List ℤ} (p : ℕ) (v w : ℤ) → b ≤ p → Below b r s → Below b (emit now r p v) (emit now s p w)
 emit-past true p v w h a = below-past a p v w h
 emit-past false p v w h a = a
 
 -- the pulses of each kind of state
-abbrev runOut : Running → List ℤ
+-- of a subframe in work
+abbrev pub runOut : Running → List ℤ
 runOut t = t .pulses
 
 abbrev whiteOut : Whitened → List ℤ

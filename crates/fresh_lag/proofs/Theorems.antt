@@ -1,18 +1,18 @@
 -- Which first frames are what they were before a fresh state had a lag: all that are voiced, all whose harmonic gains are 0, all that have no more than
 -- 99 samples (L 40 with n 2); and in every other all pulses below 99 less the decision delay. Of the definition that the contracts cite, for every
 -- rule of replacement. Assumes nothing.
-use Prim.Native.Nat.{ℕ, zero, suc, _+_, _-_, _*_, _<_, _≤_}
+use Prim.Native.Nat.{ℕ, _+_, _-_, _*_, _<_, _≤_}
 use native.Mathlib.Omega.{arith}
 use mathlib.Core.Path.{_≡_, refl, sym, ap, _∙_}
 use mathlib.Core.Bool.{true, false}
 use mathlib.Core.List.{List}
 use lib.IntN.{ℤ, pos}
-use lib.ListN.{replicate}
 use lib.Dec.{eqb}
 use borrow.Author.Tests.{eqb-true, eqb-false}
 use Rattle.fixed.specs.Row.{word}
 use Rattle.fixed.proofs.Iters.{cases}
-use Rattle.silk.specs.State.{zeros, freshLag, freshState}
+use Rattle.silk.specs.State.{freshLag, freshState}
+use Rattle.silk.proofs.Zeros.{zeros-word}
 use Rattle.limits.specs.Count.{natZ}
 use Rattle.refusal_rules.specs.Code.{codeOf}
 use Rattle.steps.specs.Among.{Rule}
@@ -34,12 +34,6 @@ fresh-is c = refl
 before-is : (c : Call) → firstBefore c ≡ lagged (first c) oldLag
 unfolding firstBefore
 before-is c = refl
-
--- a row of zeros has no other word, past its end neither
-zero-words : (n j : ℕ) → word (replicate n (pos 0)) j ≡ pos 0
-zero-words zero j = refl
-zero-words (suc n) zero = refl
-zero-words (suc n) (suc j) = zero-words n j
 
 -- both have one delay
 delays : (c : Call) → delayOf (lagged (first c) freshLag) ≡ delayOf (lagged (first c) oldLag)
@@ -108,8 +102,8 @@ module _ (rule : Rule) (c : Call) (x p : List ℤ) where
 
   -- ---- before sample 99 there is nothing to hear
   silent-words : (j : ℕ) → word (first c .state .«sLTP_shp_Q14») j ≡ pos 0
-  unfolding first from freshState zeros
-  silent-words j = zero-words 640 j
+  unfolding first from freshState
+  silent-words j = zeros-word 640 j
 
   -- neither lag reaches a word of the frame itself
   today : 0 < natZ freshLag → heardFrom < natZ freshLag

@@ -9,7 +9,7 @@ use lib.ListN.{set}
 use lib.Dec.{ltb}
 use borrow.Author.Tests.{ltb-true}
 use lib.IntN.{ℤ, pos}
-use Rattle.fixed.proofs.Iters.{iter-rel, either-all, either-rel}
+use Rattle.fixed.proofs.Iters.{iter-rel, either-all}
 use Rattle.word_steps.specs.Harmonic.{ltpTerm}
 use Rattle.word_steps.specs.Gains.{«gain_adj_Q16»}
 use Rattle.noise.specs.Output.{pulseOf}
@@ -29,9 +29,9 @@ use Rattle.steps.specs.Turn.{tookFrom, took, putAt, put, turn}
 use Rattle.steps.specs.Subframe.{moveBack, subframe}
 use Rattle.steps.specs.Scale.{scaledWork, scaled}
 use Rattle.steps.specs.Frame.{Framed, framedOf, regained, flushedFirst, whitenedFirst, before, coded, step}
-use Rattle.counts.proofs.Rows.{Below, below-past}
+use Rattle.counts.proofs.Rows.{Below}
 use Rattle.counts.proofs.Subframe.{turn-wrote, moved-back}
-use Rattle.counts.proofs.Prefix.{Pre, pre-step, frameOut}
+use Rattle.counts.proofs.Prefix.{Pre, pre-step, emit-past, runOut, frameOut}
 
 -- ---- a subframe that isn't voiced
 -- its scalars, with the lag d
@@ -127,10 +127,7 @@ pub record Along {A : Type 0} (Q : List ℤ → Type 0) (out shaped : A → List
   pub pre : Pre out b t g r s
   pub kept : Q (shaped r)
 
--- pulses and shaping row of a subframe in work
-abbrev runOut : Running → List ℤ
-runOut t = t .pulses
-
+-- the shaping row of a subframe in work
 abbrev runShaped : Running → List ℤ
 runShaped t = t .«sLTP_shp_Q14»
 
@@ -167,11 +164,9 @@ module _ (Q : List ℤ → Type 0) (rule : Rule) (f : Fix) (v : Rows) (x : List 
   turn-out : (i : ℕ) {b : ℕ} → b ≤ f .base + i - f .decisionDelay → (r s : Running) → Below b (r .pulses) (s .pulses)
       → Below b (turn rule (quiet f d) v x i r .pulses) (turn rule (quiet f e) v x i s .pulses)
   unfolding leaves
-  turn-out i {b} h r s a =
-      let p = f .base + i - f .decisionDelay in
+  turn-out i h r s a =
       rw (turn-wrote rule (quiet f d) v x i r .out, turn-wrote rule (quiet f e) v x i s .out)
-      (either-rel (Below b) (leaves f i) (set (r .pulses) p (pulseOf (took rule (quiet f d) v x i r .«Q_Q10»))) (r .pulses)
-      (set (s .pulses) p (pulseOf (took rule (quiet f e) v x i s .«Q_Q10»))) (s .pulses) (λ c. below-past a p _ _ h) (λ c. a))
+      (emit-past (leaves f i) (f .base + i - f .decisionDelay) (pulseOf (took rule (quiet f d) v x i r .«Q_Q10»)) (pulseOf (took rule (quiet f e) v x i s .«Q_Q10»)) h a)
 
   -- .. and no shaping word before 4L
   turn-kept : (i : ℕ) (r : Running) → Q (r .«sLTP_shp_Q14») → Q (turn rule (quiet f d) v x i r .«sLTP_shp_Q14»)

@@ -2,10 +2,10 @@
 use mathlib.Core.Path.{_≡_, refl}
 use mathlib.Core.Bool.{Bool, true, false}
 use mathlib.Core.List.{List, [], _∷_}
-use Prim.Native.Nat.{ℕ, zero, suc, _+_, _*_, _≤_, _<_, min}
+use Prim.Native.Nat.{ℕ, suc, _+_, _*_, _≤_, _<_, min}
 use native.Mathlib.Omega.{arith}
 use lib.ListN.{length, take}
-use lib.IntN.{ℤ, pos}
+use lib.IntN.{ℤ}
 use lib.Dec.{eqb}
 use borrow.Author.Tests.{eqb-true, eqb-false}
 use denote.Ref.{now}
@@ -13,7 +13,8 @@ use mir.Syntax.{w8}
 use mir.Val.{SFits}
 use mir.Facts.{sfits-lit}
 use Rattle.fixed.specs.Row.{word}
-use Rattle.fixed.proofs.Lin.{P, N, sfits-lin}
+use Rattle.fixed.proofs.Lin.{sfits-lin}
+use Rattle.silk.proofs.Zeros.{zeros-word}
 use Rattle.silk.specs.State.{zeros}
 use Rattle.pages.specs.Page.{page, puts}
 use Rattle.pages.proofs.Pages.{puts-leaves, puts-used}
@@ -29,7 +30,7 @@ use Rattle.sheet_form.specs.Sections.{Reading, fault, sheet, reading}
 use Rattle.sheet_form.proofs.Numbers.{zeros-length}
 use Rattle.sheet_form.proofs.Faults.{FaultMost, reading-most}
 use Rattle.sheet_text.proofs.Short.{Small, AllSmall, fault-short, answer-short}
-use Rattle.sheet_page.specs.Calls.{settingsIn, samplesIn, sheetCall, defaulted, frameLength, sheetOutcome}
+use Rattle.sheet_page.specs.Calls.{settingsIn, samplesIn, sheetCall, defaulted, frameLength}
 use Rattle.sheet_page.specs.Page.{outcomeText, foundPage, sheetPage}
 use Rattle.sheet_page.proofs.Texts.{short-row}
 use Rattle.sheet_page.proofs.page.sheet_page.Reads as sheet-page
@@ -43,10 +44,7 @@ bytes-small [] h = tt
 bytes-small (z ∷ l) h = (byte-small (h 0), bytes-small l (λ i. h (suc i)))
 
 zeros-bytes : (n i : ℕ) → SFits w8 (word (zeros n) i)
-unfolding zeros
-zeros-bytes zero i = sfits-lit tt
-zeros-bytes (suc n) zero = sfits-lit tt
-zeros-bytes (suc n) (suc i) = zeros-bytes n i
+zeros-bytes n i = rw (zeros-word n i) (sfits-lit tt)
 
 code-small : (a : Answer) → codeOf a < 100000
 code-small Accepted = omega arith
