@@ -5,6 +5,8 @@ use lib.IntN.{ℤ}
 use denote.Ref.{now}
 use Rattle.plain_laid.specs.Laid.{Left}
 use Rattle.plain_fresh.specs.Fresh.{Freshly}
+use Rattle.wav_file.specs.declared.find.Found.{Found}
+use Rattle.wav_file.specs.Fill.{Filled}
 use Rattle.nsq_c.specs.Heard.{Numbered}
 use Rattle.nsq_c.specs.Report.{Reported}
 use Rattle.nsq_c.specs.declared.calling.Replied.{Replied}
@@ -14,6 +16,8 @@ use Rattle.nsq_c.proofs.call.nsq_del_dec.Reads as call
 use Rattle.nsq_c.proofs.calling.called.Reads as called
 use Rattle.nsq_c.proofs.calling.short_number.Reads as short
 use Rattle.nsq_c.proofs.report.nsq_del_dec_report.Reads as report
+use Rattle.nsq_c.proofs.wav.nsq_wav_find.Reads as find
+use Rattle.nsq_c.proofs.wav.nsq_wav_samples.Reads as samples
 
 -- the number and both rows are the same
 pub nsq-fresh-unique : (κs a r s e f : _) → fresh.Post κs a r e → fresh.Post κs a s f → (r ≡ s) × ((now (e .0) ≡ now (f .0)) × (now (e .1 .0) ≡ now (f .1 .0)))
@@ -52,3 +56,14 @@ nsq-del-dec-report-unique κs a r s e f p q =
 -- the number and the row are the same
 pub nsq-excitation-unique : (κs a r s e f : _) → excitation.Post κs a r e → excitation.Post κs a s f → (r ≡ s) × (now (e .1 .1 .1 .1 .0) ≡ now (f .1 .1 .1 .1 .0))
 nsq-excitation-unique κs a r s e f p q = let same = p ∙ sym q in (ap (λ (o : Numbered). o .number) same, ap (λ (o : Numbered). o .row) same)
+
+-- the number, the place, the length and the rate
+pub nsq-wav-find-unique : (κs a r s e f : _) → find.Post κs a r e → find.Post κs a s f
+    → (r ≡ s) × ((now (e .1 .0) ≡ now (f .1 .0)) × ((now (e .1 .1 .0) ≡ now (f .1 .1 .0)) × (now (e .1 .1 .1 .0) ≡ now (f .1 .1 .1 .0))))
+nsq-wav-find-unique κs a r s e f p q =
+    let same = p ∙ sym q in
+    (ap (λ (o : Found). o .answer) same, (ap (λ (o : Found). o .start) same, (ap (λ (o : Found). o .length) same, ap (λ (o : Found). o .rate) same)))
+
+-- the number and the row
+pub nsq-wav-samples-unique : (κs a r s e f : _) → samples.Post κs a r e → samples.Post κs a s f → (r ≡ s) × (now (e .1 .0) ≡ now (f .1 .0))
+nsq-wav-samples-unique κs a r s e f p q = let same = p ∙ sym q in (ap (λ (o : Filled). o .answer) same, ap (λ (o : Filled). o .row) same)

@@ -1,0 +1,122 @@
+-- A walk under way: what was met so far, and what is met from here on, is what the whole walk meets. Assumes nothing.
+use Prim.Native.Nat.{ℕ, zero, suc, _+_, _-_, _≤_, _<_}
+use native.Mathlib.Omega.{arith}
+use mathlib.Core.Path.{_≡_, refl, sym, _∙_}
+use mathlib.Core.Bool.{Bool, true, false, not, _||_}
+use mathlib.Core.List.{List}
+use lib.ListN.{length}
+use lib.Dec.{leb, eqb, eqb·suc-zero}
+use borrow.Author.Tests.{leb-true, le-leb, lt-leb}
+use Rattle.fixed.specs.Iter.{either}
+use Rattle.wav_file.specs.Riff.{sizeAt, isFormat, isData, whole, after, isLast, chunksFrom, first}
+use Rattle.wav_file.specs.Find.{pastAt, formatAt, dataAt, runsPast}
+use Rattle.wav_file.specs.Marks.{marksOf, formatWith}
+use Rattle.wav_file.proofs.Firsts.{clash}
+use Rattle.wav_file.proofs.Walks.{after-more, chunks-end, chunks-more, is-not-last}
+use Rattle.wav_file.proofs.Skips.{two-names}
+
+-- with the first `fmt ` so far, 0 for none, the walk has come to `at`, and has met no chunk past the end and no `data`
+pub record Going (f : List ℕ) (fmt at : ℕ) : Type 0 where
+  pub from : 12 ≤ at
+  pub past : pastAt f ≡ first (λ p. not (whole f p)) (chunksFrom f at)
+  pub format : formatAt f ≡ either (eqb fmt 0) (first (isFormat f) (chunksFrom f at)) fmt
+  pub dat : dataAt f ≡ first (isData f) (chunksFrom f at)
+
+pub going-start : (f : List ℕ) → Going f 0 12
+unfolding pastAt formatAt dataAt
+going-start f = record { from = omega arith; past = refl; format = refl; dat = refl }
+
+or-zero : (n : ℕ) → either (eqb n 0) 0 n ≡ n
+or-zero zero = refl
+or-zero (suc n) = rw (eqb·suc-zero n)
+
+not-zero : (n : ℕ) → 0 < n → eqb n 0 ≡ false
+not-zero zero h = absurd (omega arith)
+not-zero (suc n) h = eqb·suc-zero n
+
+last-past : (f : List ℕ) (at : ℕ) → whole f at ≡ false → isLast f at ≡ true
+unfolding isLast
+last-past f at w = rw w
+
+last-data : (f : List ℕ) (at : ℕ) → isData f at ≡ true → isLast f at ≡ true
+unfolding isLast
+last-data f at d = rw d (or-true (not (whole f at)))
+  where
+    or-true : (b : Bool) → b || true ≡ true
+    or-true true = refl
+    or-true false = refl
+
+-- a chunk runs past the end
+pub going-past : (f : List ℕ) (fmt at : ℕ) → Going f fmt at → at < length f → whole f at ≡ false
+    → marksOf f ≡ record { past = true; format = 0; body = 0 }
+unfolding marksOf runsPast
+going-past f fmt at g l w =
+    let e : pastAt f ≡ at = g .past ∙ rw (chunks-more f at l, w) in
+    rw (e, not-zero at (omega (arith, g .from)))
+
+-- the first `data`
+pub going-data : (f : List ℕ) (fmt at : ℕ) → Going f fmt at → at < length f → whole f at ≡ true → isData f at ≡ true
+    → marksOf f ≡ record { past = false; format = fmt; body = at }
+unfolding marksOf runsPast
+going-data f fmt at g l w d =
+    let z = last-data f at d in
+    let e : pastAt f ≡ 0 = g .past ∙ rw (chunks-more f at l, w, z) in
+    let n : isFormat f at ≡ false = no-format (isFormat f at) refl in
+    let u : formatAt f ≡ fmt = g .format ∙ rw (chunks-more f at l, n, z) (or-zero fmt) in
+    let v : dataAt f ≡ at = g .dat ∙ rw (chunks-more f at l, d) in
+    rw (e, u, v)
+  where
+    no-format : (b : Bool) → isFormat f at ≡ b → isFormat f at ≡ false
+    no-format true q = absurd (two-names f at d q)
+    no-format false q = q
+
+-- any other chunk
+pub going-next : (f : List ℕ) (fmt at : ℕ) → Going f fmt at → at < length f → whole f at ≡ true → isData f at ≡ false
+    → Going f (formatWith f at fmt) (after f at)
+unfolding formatWith
+going-next f fmt at g l w d =
+    let z = is-not-last f at w d in
+    record {
+      from = omega (arith, g .from, after-more f at);
+      past = g .past ∙ rw (chunks-more f at l, w, z);
+      format = g .format ∙ rw (chunks-more f at l, z) (turn fmt (isFormat f at) (first (isFormat f) (chunksFrom f (after f at))));
+      dat = g .dat ∙ rw (chunks-more f at l, d, z);
+    }
+  where
+    turn : (n : ℕ) (b : Bool) (r : ℕ) → either (eqb n 0) (either b at r) n ≡ either (eqb (either (eqb n 0) (either b at 0) n) 0) r (either (eqb n 0) (either b at 0) n)
+    turn zero true r = rw (not-zero at (omega (arith, g .from)))
+    turn zero false r = refl
+    turn (suc n) b r = rw (eqb·suc-zero n) (rw (eqb·suc-zero n))
+
+-- the end of the file
+pub going-end : (f : List ℕ) (fmt at : ℕ) → Going f fmt at → length f ≤ at → marksOf f ≡ record { past = false; format = fmt; body = 0 }
+unfolding marksOf runsPast
+going-end f fmt at g l =
+    let e : pastAt f ≡ 0 = g .past ∙ rw (chunks-end f at l) in
+    let u : formatAt f ≡ fmt = g .format ∙ rw (chunks-end f at l) (or-zero fmt) in
+    let v : dataAt f ≡ 0 = g .dat ∙ rw (chunks-end f at l) in
+    rw (e, u, v)
+
+-- a chunk that lies in the file
+pub whole-le : (f : List ℕ) (at : ℕ) → whole f at ≡ true → at + 8 + sizeAt f at ≤ length f
+unfolding whole
+whole-le f at w = leb-true _ _ w
+
+leb-same : (a b c d : ℕ) → (a ≤ b → c ≤ d) → (c ≤ d → a ≤ b) → leb a b ≡ leb c d
+leb-same a b c d to of = turn (leb a b) refl
+  where
+    turn : (t : Bool) → leb a b ≡ t → leb a b ≡ leb c d
+    turn true e = e ∙ sym (le-leb c d (to (leb-true a b e)))
+    turn false e = e ∙ sym (lt-leb c d (not-le c d (λ h. clash (leb a b) (le-leb a b (of h)) e)))
+      where
+        not-le : (m n : ℕ) → (m ≤ n → ⊥) → n < m
+        not-le m n k = omega arith
+
+-- the same by what is left behind the head
+pub whole-left : (f : List ℕ) (at : ℕ) → at + 8 ≤ length f → leb (sizeAt f at) (length f - at - 8) ≡ whole f at
+unfolding whole
+whole-left f at h = leb-same (sizeAt f at) (length f - at - 8) (at + 8 + sizeAt f at) (length f) (λ l. omega arith) (λ l. omega arith)
+
+pub no-head : (f : List ℕ) (at : ℕ) → length f - at < 8 → whole f at ≡ false
+unfolding whole
+no-head f at h = lt-leb (at + 8 + sizeAt f at) (length f) (omega arith)

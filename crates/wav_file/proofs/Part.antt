@@ -1,0 +1,206 @@
+-- The part of an accepted file lies in the file and is the first `data`'s content. Assumes nothing.
+use Prim.Native.Nat.{ℕ, zero, suc, _+_, _%_, _≤_, _<_}
+use native.Mathlib.Omega.{arith}
+use native.Mathlib.Nat.{mod-lt}
+use mathlib.Core.Path.{_≡_, refl, _∙_, subst}
+use mathlib.Core.Logic.{⊎-elim}
+use mathlib.Core.Bool.{Bool, true, false, not, _&&_}
+use mathlib.Core.List.{List}
+use lib.ListN.{length, length-take, length-drop}
+use lib.Dec.{ltb, eqb, eqb·suc-zero}
+use borrow.Author.Tests.{ltb-false, leb-true, eqb-true, eqb-false, not-false}
+use Rattle.fixed.specs.Iter.{either}
+use Rattle.wav_file.specs.Bytes.{word16, word32}
+use Rattle.wav_file.specs.Riff.{sizeAt, isFormat, isData, whole, chunks, first}
+use Rattle.wav_file.specs.Find.{pastAt, formatAt, dataAt, rateAllowed, otherSound, runsPast, noFormat, otherFormat, noData, oddData, tooLong, table, answerOf, accepted, refused, found, part}
+use Rattle.wav_file.specs.Walked.{In}
+use Rattle.wav_file.specs.Shown.{IsData, IsFormat}
+use Rattle.wav_file.proofs.Exactly.{exactly-accepted}
+use Rattle.wav_file.proofs.Firsts.{clash, first-hit, first-none}
+use Rattle.wav_file.proofs.Walks.{after-more, along-chunks, not-last, places, in-walked, walked-in}
+
+nonzero : (n : ℕ) → eqb n 0 ≡ false → 0 < n
+nonzero zero h = absurd (eqb-false 0 0 h refl)
+nonzero (suc n) h = omega arith
+
+-- ---- the three chunks
+-- the `data` found is the only one: the walk ends there
+pub only-data : (f : List ℕ) (p : ℕ) → In p (chunks f) → isData f p ≡ true → p ≡ dataAt f
+unfolding dataAt
+only-data f p =
+    along-chunks (λ at l. In p l → isData f p ≡ true → p ≡ first (isData f) l) f
+    (λ at h i d. absurd i)
+    (λ at h l i d. ⊎-elim (λ (e : p ≡ at). rw (subst (λ (x : ℕ). isData f x ≡ true) e d) e) (λ i. absurd i) i)
+    (λ at rest h l q i d.
+    rw (not-last f at l .1)
+    (⊎-elim (λ (e : p ≡ at). absurd (clash (isData f at) (subst (λ (x : ℕ). isData f x ≡ true) e d) (not-last f at l .1))) (λ (j : In p rest). q j d) i))
+
+-- the first that passes a test is the one at the lowest place
+pub lowest-place : (t : ℕ → Bool) (f : List ℕ) (p : ℕ) → In p (chunks f) → t p ≡ true → first t (chunks f) ≤ p
+lowest-place t f p =
+    along-chunks (λ at l. ((q : ℕ) → In q l → at ≤ q) × (In p l → t p ≡ true → first t l ≤ p)) f
+    (λ at h. ((λ q i. absurd i), (λ i. absurd i)))
+    (λ at h l. (
+      (λ q i. ⊎-elim (λ (e : q ≡ at). omega arith) (λ i. absurd i) i),
+      (λ i d. ⊎-elim (λ (e : p ≡ at). rw (subst (λ (x : ℕ). t x ≡ true) e d) (omega arith)) (λ i. absurd i) i),
+    ))
+    (λ at rest h l r. (
+      (λ q i. ⊎-elim (λ (e : q ≡ at). omega arith) (λ (j : In q rest). omega (arith, r .0 q j, after-more f at)) i),
+      (λ i d. ⊎-elim (λ (e : p ≡ at). rw (subst (λ (x : ℕ). t x ≡ true) e d) (omega arith)) (λ (j : In p rest). pick at rest (t at) (omega (arith, r .0 p j, after-more f at)) (r .1 j d)) i),
+    ))
+    .1
+  where
+    pick : (at : ℕ) (rest : List ℕ) (b : Bool) → at ≤ p → first t rest ≤ p → either b at (first t rest) ≤ p
+    pick at rest true u v = u
+    pick at rest false u v = v
+
+pub lowest-format : (f : List ℕ) (p : ℕ) → In p (chunks f) → isFormat f p ≡ true → formatAt f ≤ p
+unfolding formatAt
+lowest-format f p i h = lowest-place (isFormat f) f p i h
+
+-- ---- where a number doesn't apply
+pub all-whole : (f : List ℕ) → runsPast f ≡ false → (p : ℕ) → In p (chunks f) → whole f p ≡ true
+unfolding runsPast pastAt
+all-whole f h p i =
+    not-false (whole f p)
+    (first-none (λ at. not (whole f at)) (chunks f) (λ q j. omega (arith, places f q j)) (eqb-true (first (λ at. not (whole f at)) (chunks f)) 0 (not-false _ h)) p i)
+
+pub record FormatIs (f : List ℕ) : Type 0 where
+  pub within : In (formatAt f) (chunks f)
+  pub name : isFormat f (formatAt f) ≡ true
+  pub size : 16 ≤ sizeAt f (formatAt f)
+
+pub format-is : (f : List ℕ) → noFormat f ≡ false → FormatIs f
+unfolding noFormat formatAt
+format-is f h = turn (eqb (formatAt f) 0) refl h
+  where
+    turn : (b : Bool) → eqb (formatAt f) 0 ≡ b → either b true (ltb (sizeAt f (formatAt f)) 16) ≡ false → FormatIs f
+    turn true e h = absurd (clash true refl h)
+    turn false e h =
+        let hit = first-hit (isFormat f) (chunks f) (nonzero (formatAt f) e) in
+        record { within = hit .0; name = hit .1; size = ltb-false (sizeAt f (formatAt f)) 16 h }
+
+pub data-is : (f : List ℕ) → noData f ≡ false → In (dataAt f) (chunks f) × (isData f (dataAt f) ≡ true)
+unfolding noData dataAt
+data-is f h = first-hit (isData f) (chunks f) (nonzero (dataAt f) h)
+
+pub sound-is : (f : List ℕ) (at : ℕ) → otherSound f at ≡ false
+    → (word16 f (at + 8) ≡ 1) × (word16 f (at + 10) ≡ 1) × (rateAllowed (word32 f (at + 12)) ≡ true) × (word16 f (at + 22) ≡ 16)
+unfolding otherSound
+sound-is f at h =
+    turn (eqb (word16 f (at + 8)) 1) (eqb (word16 f (at + 10)) 1) (rateAllowed (word32 f (at + 12))) (eqb (word16 f (at + 22)) 16) refl refl refl refl (not-false _ h)
+  where
+    turn : (a b c d : Bool) → eqb (word16 f (at + 8)) 1 ≡ a → eqb (word16 f (at + 10)) 1 ≡ b → rateAllowed (word32 f (at + 12)) ≡ c → eqb (word16 f (at + 22)) 16 ≡ d
+        → a && (b && (c && d)) ≡ true
+        → (word16 f (at + 8) ≡ 1) × (word16 f (at + 10) ≡ 1) × (rateAllowed (word32 f (at + 12)) ≡ true) × (word16 f (at + 22) ≡ 16)
+    turn true true true d x y z w e = (eqb-true _ _ x, eqb-true _ _ y, z, eqb-true _ _ (w ∙ e))
+    turn true true false d x y z w e = absurd (clash false e refl)
+    turn true false c d x y z w e = absurd (clash false e refl)
+    turn false b c d x y z w e = absurd (clash false e refl)
+
+even-of : (n : ℕ) → eqb (n % 2) 1 ≡ false → n % 2 ≡ 0
+even-of n h =
+    let l : n % 2 < 2 = mod-lt n (omega arith) in
+    turn (n % 2) l (eqb-false (n % 2) 1 h)
+  where
+    turn : (r : ℕ) → r < 2 → (r ≡ 1 → ⊥) → r ≡ 0
+    turn zero l k = refl
+    turn (suc zero) l k = absurd (k refl)
+    turn (suc (suc r)) l k = absurd (omega arith)
+
+-- ---- an accepted file
+module _ (f : List ℕ) (ok : answerOf f ≡ 0) where
+  pub accepted-found : found f ≡ accepted f
+  unfolding found
+  accepted-found = rw ok
+
+  no3 : runsPast f ≡ false
+  unfolding table
+  no3 = exactly-accepted f .0 ok 3 (omega arith) (omega arith)
+
+  pub no4 : noFormat f ≡ false
+  unfolding table
+  no4 = exactly-accepted f .0 ok 4 (omega arith) (omega arith)
+
+  no5 : otherFormat f ≡ false
+  unfolding table
+  no5 = exactly-accepted f .0 ok 5 (omega arith) (omega arith)
+
+  pub no6 : noData f ≡ false
+  unfolding table
+  no6 = exactly-accepted f .0 ok 6 (omega arith) (omega arith)
+
+  no7 : oddData f ≡ false
+  unfolding table
+  no7 = exactly-accepted f .0 ok 7 (omega arith) (omega arith)
+
+  same-sound : otherSound f (formatAt f) ≡ false
+  unfolding otherFormat
+  same-sound = rw no4 at no5
+
+  even-size : sizeAt f (dataAt f) % 2 ≡ 0
+  unfolding oddData
+  even-size = even-of (sizeAt f (dataAt f)) (rw no6 at no7)
+
+  pub data-inside : dataAt f + 8 + sizeAt f (dataAt f) ≤ length f
+  unfolding whole
+  data-inside = leb-true _ _ (all-whole f no3 (dataAt f) (data-is f no6 .0))
+
+  pub part-is-data : IsData f (found f)
+  unfolding accepted part
+  part-is-data =
+      let d = data-is f no6 in
+      let i = data-inside in
+      rw accepted-found
+      (record {
+        at = dataAt f;
+        walked = in-walked f (dataAt f) (d .0);
+        name = d .1;
+        only = λ p w h. only-data f p (walked-in f p w) h;
+        place = refl;
+        size = refl;
+        even = even-size;
+        inside = i;
+        bytes = simp (length-take, length-drop) (omega arith);
+      })
+
+  pub format-is-first : IsFormat f (found f)
+  unfolding accepted
+  format-is-first =
+      let d = format-is f no4 in
+      let s = sound-is f (formatAt f) same-sound in
+      rw accepted-found
+      (record {
+        at = formatAt f;
+        walked = in-walked f (formatAt f) (d .within);
+        name = d .name;
+        earliest = λ p w h. lowest-format f p (walked-in f p w) h;
+        size = d .size;
+        coding = s .0;
+        channels = s .1;
+        width = s .3;
+        rate = refl;
+        allowed = s .2;
+      })
+
+-- the part of any file lies in it: a refused one's is empty
+pub found-inside : (f : List ℕ) → (found f) .start + (found f) .length ≤ length f
+unfolding found
+found-inside f = turn (answerOf f) refl
+  where
+    turn : (a : ℕ) → answerOf f ≡ a → (either (eqb (answerOf f) 0) (accepted f) (refused (answerOf f))) .start + (either (eqb (answerOf f) 0) (accepted f) (refused (answerOf f))) .length ≤ length f
+    turn zero q = part-is-data f q .inside
+    turn (suc a) q = rw (q, eqb·suc-zero a) (omega arith)
+
+short-file : (f : List ℕ) → answerOf f ≡ 0 → length f ≤ 65536
+unfolding table tooLong
+short-file f ok = ltb-false 65536 (length f) (exactly-accepted f .0 ok 1 (omega arith) (omega arith))
+
+-- and ends at 65,536 at the latest, whatever the file's length
+pub found-small : (f : List ℕ) → (found f) .start + (found f) .length ≤ 65536
+unfolding found
+found-small f = turn (answerOf f) refl
+  where
+    turn : (a : ℕ) → answerOf f ≡ a → (either (eqb (answerOf f) 0) (accepted f) (refused (answerOf f))) .start + (either (eqb (answerOf f) 0) (accepted f) (refused (answerOf f))) .length ≤ 65536
+    turn zero q = let i = part-is-data f q .inside in omega (arith, short-file f q)
+    turn (suc a) q = rw (q, eqb·suc-zero a) (omega arith)

@@ -1,0 +1,150 @@
+-- What is passed over is not looked at: two files of one length that differ only in RIFF's size, pad bytes, contents of other chunks than the first
+-- `fmt `, or bytes behind the first `data`'s head give the same answer, place, length and rate. Assumes nothing.
+use Prim.Native.Nat.{ℕ, _+_, _%_, _≤_, _<_}
+use native.Mathlib.Omega.{arith}
+use mathlib.Core.Path.{_≡_, refl, sym, _∙_, subst}
+use mathlib.Core.Logic.{_⊎_, ⊎-elim}
+use mathlib.Core.Bool.{Bool, true, false, not, _&&_, _||_}
+use mathlib.Core.List.{List}
+use lib.ListN.{length}
+use lib.Dec.{eqb}
+use borrow.Author.Tests.{eqb-true}
+use Rattle.wav_file.specs.Bytes.{byte, named}
+use Rattle.wav_file.specs.Riff.{sizeAt, isFormat, isData, whole, after, isLast, chunks}
+use Rattle.wav_file.specs.Find.{formatAt, dataAt, found}
+use Rattle.wav_file.specs.Walked.{In, Looked, riff, wave, head, format, Skipped, size, pad, content, beyond, behind}
+use Rattle.wav_file.proofs.Firsts.{clash, first-hit}
+use Rattle.wav_file.proofs.Part.{format-is}
+use Rattle.wav_file.proofs.Walks.{after-more, along-chunks, places}
+use Rattle.wav_file.proofs.Same.{same-found}
+
+-- ---- two walked chunks are one, or one lies behind the other and that other isn't the walk's last
+data Apart (f : List ℕ) (a b : ℕ) : Type 0 where
+  one : a ≡ b → Apart f a b
+  up : after f a ≤ b → isLast f a ≡ false → Apart f a b
+  down : after f b ≤ a → isLast f b ≡ false → Apart f a b
+
+apart : (f : List ℕ) (a b : ℕ) → In a (chunks f) → In b (chunks f) → Apart f a b
+apart f a b =
+    along-chunks (λ at l. ((p : ℕ) → In p l → at ≤ p) × (In a l → In b l → Apart f a b)) f
+    (λ at h. ((λ p i. absurd i), (λ i. absurd i)))
+    (λ at h l. (
+      (λ p i. ⊎-elim (λ (e : p ≡ at). omega arith) (λ i. absurd i) i),
+      (λ i j. ⊎-elim (λ (e : a ≡ at). ⊎-elim (λ (u : b ≡ at). one (e ∙ sym u)) (λ j. absurd j) j) (λ i. absurd i) i),
+    ))
+    (λ at rest h l r. (
+      (λ p i. ⊎-elim (λ (e : p ≡ at). omega arith) (λ (j : In p rest). omega (arith, r .0 p j, after-more f at)) i),
+      (λ i j.
+          ⊎-elim
+          (λ (e : a ≡ at).
+          ⊎-elim (λ (u : b ≡ at). one (e ∙ sym u))
+          (λ (k : In b rest). up (subst (λ (x : ℕ). after f x ≤ b) (sym e) (r .0 b k)) (subst (λ (x : ℕ). isLast f x ≡ false) (sym e) l))
+          j)
+          (λ (m : In a rest).
+          ⊎-elim (λ (u : b ≡ at). down (subst (λ (x : ℕ). after f x ≤ a) (sym u) (r .0 a m)) (subst (λ (x : ℕ). isLast f x ≡ false) (sym u) l))
+          (λ (k : In b rest). r .1 m k)
+          j)
+          i),
+    ))
+    .1
+
+after-is : (f : List ℕ) (at : ℕ) → after f at ≡ at + 8 + sizeAt f at + sizeAt f at % 2
+unfolding after
+after-is f at = refl
+
+-- ---- the head of a walked chunk, and the bytes of the first `fmt `
+-- a place from at + 8 on and before the chunk behind is in no head
+clear-head : (f : List ℕ) (p a b : ℕ) → Apart f a b → a + 8 ≤ p → p < after f a → b ≤ p → p < b + 8 → ⊥
+clear-head f p a b (one e) l u k v = omega arith
+clear-head f p a b (up g w) l u k v = omega arith
+clear-head f p a b (down g w) l u k v = omega (arith, after-more f b)
+
+-- and in no `fmt ` other than this chunk
+clear-format : (f : List ℕ) (p a b : ℕ) → (a ≡ b → ⊥) → Apart f a b → 16 ≤ sizeAt f b → a + 8 ≤ p → p < after f a → b + 8 ≤ p → p < b + 24 → ⊥
+clear-format f p a b n (one e) s l u k v = n e
+clear-format f p a b n (up g w) s l u k v = omega arith
+clear-format f p a b n (down g w) s l u k v = omega (arith, after-is f b)
+
+-- behind the last chunk's head there is no head and no `fmt `
+last-head : (f : List ℕ) (p a b : ℕ) → isLast f a ≡ true → Apart f a b → a + 8 ≤ p → b ≤ p → p < b + 8 → ⊥
+last-head f p a b t (one e) l k v = omega arith
+last-head f p a b t (up g w) l k v = clash (isLast f a) t w
+last-head f p a b t (down g w) l k v = omega (arith, after-more f b)
+
+last-format : (f : List ℕ) (p a b : ℕ) → isLast f a ≡ true → (a ≡ b → ⊥) → Apart f a b → 16 ≤ sizeAt f b → a + 8 ≤ p → b + 8 ≤ p → p < b + 24 → ⊥
+last-format f p a b t n (one e) s l k v = n e
+last-format f p a b t n (up g w) s l k v = clash (isLast f a) t w
+last-format f p a b t n (down g w) s l k v = omega (arith, after-is f b)
+
+-- ---- the first `data`
+or-true : (b c : Bool) → c ≡ true → not b || c ≡ true
+or-true true c h = h
+or-true false c h = refl
+
+and-first : (b c : Bool) → b && c ≡ true → b ≡ true
+and-first true c h = refl
+and-first false c h = h
+
+data-named : (f : List ℕ) → In (dataAt f) (chunks f) → isData f (dataAt f) ≡ true
+unfolding dataAt
+data-named f i = first-hit (isData f) (chunks f) (omega (arith, places f (dataAt f) i)) .1
+
+data-last : (f : List ℕ) → In (dataAt f) (chunks f) → isLast f (dataAt f) ≡ true
+unfolding isLast
+data-last f i = or-true (whole f (dataAt f)) (isData f (dataAt f)) (data-named f i)
+
+-- no chunk has both names
+pub two-names : (f : List ℕ) (at : ℕ) → isData f at ≡ true → isFormat f at ≡ true → ⊥
+unfolding isData isFormat named
+two-names f at d n =
+    let u = eqb-true (byte f at) 100 (and-first (eqb (byte f at) 100) _ d) in
+    let v = eqb-true (byte f at) 102 (and-first (eqb (byte f at) 102) _ n) in
+    omega arith
+
+-- ---- what is passed over is not looked at
+pub not-looked : (f : List ℕ) (p : ℕ) → Skipped f p → Looked f p → ⊥
+not-looked f p (size l u) (riff k) = omega arith
+not-looked f p (size l u) (wave k v) = omega arith
+not-looked f p (size l u) (head b j k v) = omega (arith, places f b j)
+not-looked f p (size l u) (format n k v) = omega (arith, places f (formatAt f) (format-is f n .within))
+not-looked f p (pad a i e o) (riff k) = omega (arith, places f a i)
+not-looked f p (pad a i e o) (wave k v) = omega (arith, places f a i)
+not-looked f p (pad a i e o) (head b j k v) = clear-head f p a b (apart f a b i j) (omega arith) (omega (arith, after-is f a)) k v
+not-looked f p (pad a i e o) (format n k v) =
+    let d = format-is f n in
+    clear-format f p a (formatAt f) (λ q. omega (arith, d .size, subst (λ (x : ℕ). p ≡ x + 8 + sizeAt f x) q e)) (apart f a (formatAt f) i (d .within)) (d .size) (omega arith) (omega (arith, after-is f a)) k v
+not-looked f p (content a i n l u) (riff k) = omega (arith, places f a i)
+not-looked f p (content a i n l u) (wave k v) = omega (arith, places f a i)
+not-looked f p (content a i n l u) (head b j k v) = clear-head f p a b (apart f a b i j) l (omega (arith, after-is f a)) k v
+not-looked f p (content a i n l u) (format m k v) =
+    let d = format-is f m in
+    clear-format f p a (formatAt f) n (apart f a (formatAt f) i (d .within)) (d .size) l (omega (arith, after-is f a)) k v
+not-looked f p (beyond i l u) (riff k) = omega arith
+not-looked f p (beyond i l u) (wave k v) = omega arith
+not-looked f p (beyond i l u) (head b j k v) = clear-head f p (formatAt f) b (apart f (formatAt f) b i j) (omega arith) (omega (arith, after-is f (formatAt f))) k v
+not-looked f p (beyond i l u) (format m k v) = omega arith
+not-looked f p (behind i l) (riff k) = omega arith
+not-looked f p (behind i l) (wave k v) = omega (arith, places f (dataAt f) i)
+not-looked f p (behind i l) (head b j k v) = last-head f p (dataAt f) b (data-last f i) (apart f (dataAt f) b i j) l k v
+not-looked f p (behind i l) (format m k v) =
+    let d = format-is f m in
+    last-format f p (dataAt f) (formatAt f) (data-last f i)
+    (λ q. two-names f (formatAt f) (subst (λ (x : ℕ). isData f x ≡ true) q (data-named f i)) (d .name))
+    (apart f (dataAt f) (formatAt f) i (d .within))
+    (d .size)
+    l
+    k
+    v
+
+-- the bytes of two files of one length are the same but where the first is passed over: so are the answer, the place, the length and the rate
+pub indifferent : (f g : List ℕ) → length f ≡ length g → ((p : ℕ) → (byte f p ≡ byte g p) ⊎ Skipped f p) → found f ≡ found g
+indifferent f g e h = same-found f g e (λ p l. ⊎-elim (λ (s : byte f p ≡ byte g p). s) (λ (s : Skipped f p). absurd (not-looked f p s l)) (h p))
+
+-- the content of a walked chunk that is neither `fmt ` nor `data` is passed over
+pub unknown : (f : List ℕ) (p at : ℕ) → In at (chunks f) → isFormat f at ≡ false → at + 8 ≤ p → p < at + 8 + sizeAt f at → Skipped f p
+unfolding formatAt
+unknown f p at i n l u =
+    content at i
+    (λ e. clash (isFormat f at) (subst (λ (x : ℕ). isFormat f x ≡ true) (sym e) (first-hit (isFormat f) (chunks f) (omega (arith, places f at i)) .1)) n)
+    l
+    u

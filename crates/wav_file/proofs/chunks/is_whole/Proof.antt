@@ -1,0 +1,30 @@
+-- `wav_file::chunks::is_whole` meets its contract: what is left behind the head is compared with the length. Assumes nothing.
+use mathlib.Core.Path.{sym}
+use Prim.Native.Nat.{_+_, _≤_}
+use native.Mathlib.Omega.{arith}
+use lib.ListN.{length}
+use denote.Ref.{now}
+use borrow.Author.Needs.{needs}
+use Rattle.wav_file.proofs.Going.{whole-left, no-head}
+use Rattle.wav_file.proofs.chunks.is_whole.Statement.{statement}
+use Rattle.wav_file.proofs.chunks.is_whole.Tie as tie
+
+sub-left : tie.Need-sub-left
+sub-left c = search needs
+
+returns : tie.Need-returns
+returns c =
+    let a = c .before .before .args in
+    sym (no-head (now (a .file)) (a .at) (c .if1 .taken))
+
+size-at-requires : tie.Need-size-at-requires
+size-at-requires c κs = search needs
+
+returns-2 : tie.Need-returns-2
+returns-2 c =
+    let a = c .before .before .before .args in
+    let h : a .at + 8 ≤ length (now (a .file)) = omega arith in
+    rw (c .size-at .ensures) (whole-left (now (a .file)) (a .at) h)
+
+pub is-whole-spec : {M : Type 1} → statement M
+is-whole-spec = tie.close (tie.spec sub-left returns size-at-requires returns-2)
