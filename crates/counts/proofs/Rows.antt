@@ -1,7 +1,6 @@
 -- Two rows that agree below a place, and what keeps that. Assumes nothing.
 use Prim.Native.Nat.{ℕ, zero, suc, _+_, _<_, _≤_}
 use native.Mathlib.Omega.{arith}
-use native.Mathlib.Nat.{zero-add, suc-add}
 use mathlib.Core.Path.{_≡_, refl, sym, ap, _∙_}
 use mathlib.Core.Bool.{Bool, true, false}
 use mathlib.Core.List.{List, [], _∷_, _++_}
@@ -12,6 +11,7 @@ use borrow.Author.Tests.{ltb-true, ltb-false}
 use lib.IntN.{ℤ, pos}
 use Rattle.fixed.specs.Iter.{either}
 use Rattle.fixed.specs.Row.{word}
+use Rattle.fixed.proofs.Parts.{drop-take}
 use Rattle.counts.specs.Agree.{Alike}
 
 -- a branch by one test, side by side
@@ -99,12 +99,6 @@ pub to-alike : {b : ℕ} {s t : List ℤ} → Below b s t → Alike b s t
 to-alike r = record { long = r .len; words = below-at r }
 
 -- a part of two rows that ends below b
-drop-take : (a m : ℕ) (l : List ℤ) → take m (drop a l) ≡ drop a (take (a + m) l)
-drop-take zero m l = rw (zero-add m) refl
-drop-take (suc a) zero [] = rw (suc-add a 0) refl
-drop-take (suc a) (suc m) [] = rw (suc-add a (suc m)) refl
-drop-take (suc a) m (x ∷ l) = rw (suc-add a m) (drop-take a m l)
-
 pub below-part : {b : ℕ} {s t : List ℤ} → Below b s t → (a m : ℕ) → a + m ≤ b → take m (drop a s) ≡ take m (drop a t)
 below-part {b} {s} {t} r a m h = drop-take a m s ∙ ap (drop a) (below-less h r .eq) ∙ sym (drop-take a m t)
 

@@ -1,9 +1,9 @@
 -- The first place that passes a test. Assumes nothing.
 use Prim.Native.Nat.{ℕ, _<_}
 use native.Mathlib.Omega.{arith}
-use mathlib.Core.Path.{_≡_, refl, sym, ap, _∙_}
+use mathlib.Core.Path.{_≡_, refl, sym, _∙_}
 use mathlib.Core.Logic.{_⊎_, inl, inr, ⊎-elim}
-use mathlib.Core.Bool.{Bool, true, false}
+use mathlib.Core.Bool.{Bool, true, false, true≢false}
 use mathlib.Core.List.{List, [], _∷_}
 use Rattle.fixed.specs.Iter.{either}
 use Rattle.wav_file.specs.Riff.{first}
@@ -11,11 +11,7 @@ use Rattle.wav_file.specs.Walked.{In}
 
 -- true is not false
 pub clash : (b : Bool) → b ≡ true → b ≡ false → ⊥
-clash b t u = omega (arith, ap code (sym t ∙ u))
-  where
-    code : Bool → ℕ
-    code true = 1
-    code false = 0
+clash b t u = true≢false (sym t ∙ u)
 
 -- what is found is in the list and passes
 pub first-hit : (t : ℕ → Bool) (l : List ℕ) → 0 < first t l → In (first t l) l × (t (first t l) ≡ true)

@@ -13,7 +13,7 @@ use Rattle.wav_file.specs.Find.{pastAt, formatAt, dataAt, runsPast}
 use Rattle.wav_file.specs.Marks.{marksOf, formatWith}
 use Rattle.wav_file.proofs.Firsts.{clash}
 use Rattle.wav_file.proofs.Walks.{after-more, chunks-end, chunks-more, is-not-last}
-use Rattle.wav_file.proofs.Skips.{two-names}
+use Rattle.wav_file.proofs.Apart.{two-names}
 
 -- with the first `fmt ` so far, 0 for none, the walk has come to `at`, and has met no chunk past the end and no `data`
 pub record Going (f : List ℕ) (fmt at : ℕ) : Type 0 where
@@ -56,15 +56,15 @@ going-past f fmt at g l w =
 
 -- the first `data`
 pub going-data : (f : List ℕ) (fmt at : ℕ) → Going f fmt at → at < length f → whole f at ≡ true → isData f at ≡ true
-    → marksOf f ≡ record { past = false; format = fmt; body = at }
-unfolding marksOf runsPast
+    → marksOf f ≡ record { past = false; format = formatWith f at fmt; body = at }
+unfolding marksOf runsPast formatWith
 going-data f fmt at g l w d =
     let z = last-data f at d in
     let e : pastAt f ≡ 0 = g .past ∙ rw (chunks-more f at l, w, z) in
     let n : isFormat f at ≡ false = no-format (isFormat f at) refl in
-    let u : formatAt f ≡ fmt = g .format ∙ rw (chunks-more f at l, n, z) (or-zero fmt) in
+    let u : formatAt f ≡ either (eqb fmt 0) 0 fmt = g .format ∙ rw (chunks-more f at l, n, z) in
     let v : dataAt f ≡ at = g .dat ∙ rw (chunks-more f at l, d) in
-    rw (e, u, v)
+    rw (e, u, v, n)
   where
     no-format : (b : Bool) → isFormat f at ≡ b → isFormat f at ≡ false
     no-format true q = absurd (two-names f at d q)
@@ -102,21 +102,15 @@ pub whole-le : (f : List ℕ) (at : ℕ) → whole f at ≡ true → at + 8 + si
 unfolding whole
 whole-le f at w = leb-true _ _ w
 
-leb-same : (a b c d : ℕ) → (a ≤ b → c ≤ d) → (c ≤ d → a ≤ b) → leb a b ≡ leb c d
-leb-same a b c d to of = turn (leb a b) refl
-  where
-    turn : (t : Bool) → leb a b ≡ t → leb a b ≡ leb c d
-    turn true e = e ∙ sym (le-leb c d (to (leb-true a b e)))
-    turn false e = e ∙ sym (lt-leb c d (not-le c d (λ h. clash (leb a b) (le-leb a b (of h)) e)))
-      where
-        not-le : (m n : ℕ) → (m ≤ n → ⊥) → n < m
-        not-le m n k = omega arith
-
--- the same by what is left behind the head
-pub whole-left : (f : List ℕ) (at : ℕ) → at + 8 ≤ length f → leb (sizeAt f at) (length f - at - 8) ≡ whole f at
+pub is-whole : (f : List ℕ) (at : ℕ) → at + 8 + sizeAt f at ≤ length f → whole f at ≡ true
 unfolding whole
-whole-left f at h = leb-same (sizeAt f at) (length f - at - 8) (at + 8 + sizeAt f at) (length f) (λ l. omega arith) (λ l. omega arith)
+is-whole f at h = le-leb (at + 8 + sizeAt f at) (length f) h
 
+-- one that doesn't
+pub not-whole : (f : List ℕ) (at : ℕ) → length f < at + 8 + sizeAt f at → whole f at ≡ false
+unfolding whole
+not-whole f at h = lt-leb (at + 8 + sizeAt f at) (length f) h
+
+-- as where fewer than eight bytes are left
 pub no-head : (f : List ℕ) (at : ℕ) → length f - at < 8 → whole f at ≡ false
-unfolding whole
-no-head f at h = lt-leb (at + 8 + sizeAt f at) (length f) (omega arith)
+no-head f at h = not-whole f at (omega arith)

@@ -3,10 +3,12 @@
 -- Going, Gives, Rows: for the code. Unique: one outcome.
 pub mod Rows
 pub mod Exactly
-pub mod Walks
 pub mod Firsts
+pub mod Walks
+pub mod Apart
 pub mod Part
 pub mod Same
+pub mod Behind
 pub mod Skips
 pub mod Plain
 pub mod Examples

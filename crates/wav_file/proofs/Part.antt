@@ -11,10 +11,11 @@ use lib.Dec.{ltb, eqb, eqb·suc-zero}
 use borrow.Author.Tests.{ltb-false, leb-true, eqb-true, eqb-false, not-false}
 use Rattle.fixed.specs.Iter.{either}
 use Rattle.wav_file.specs.Bytes.{word16, word32}
-use Rattle.wav_file.specs.Riff.{sizeAt, isFormat, isData, whole, chunks, first}
+use Rattle.wav_file.specs.Riff.{sizeAt, isFormat, isData, whole, isLast, chunks, first}
 use Rattle.wav_file.specs.Find.{pastAt, formatAt, dataAt, rateAllowed, otherSound, runsPast, noFormat, otherFormat, noData, oddData, tooLong, table, answerOf, accepted, refused, found, part}
 use Rattle.wav_file.specs.Walked.{In}
 use Rattle.wav_file.specs.Shown.{IsData, IsFormat}
+use Rattle.wav_file.proofs.Apart.{Apart, one, up, down, apart, after-is, data-last, two-names}
 use Rattle.wav_file.proofs.Exactly.{exactly-accepted}
 use Rattle.wav_file.proofs.Firsts.{clash, first-hit, first-none}
 use Rattle.wav_file.proofs.Walks.{after-more, along-chunks, not-last, places, in-walked, walked-in}
@@ -114,7 +115,7 @@ module _ (f : List ℕ) (ok : answerOf f ≡ 0) where
   unfolding found
   accepted-found = rw ok
 
-  no3 : runsPast f ≡ false
+  pub no3 : runsPast f ≡ false
   unfolding table
   no3 = exactly-accepted f .0 ok 3 (omega arith) (omega arith)
 
@@ -145,6 +146,14 @@ module _ (f : List ℕ) (ok : answerOf f ≡ 0) where
   pub data-inside : dataAt f + 8 + sizeAt f (dataAt f) ≤ length f
   unfolding whole
   data-inside = leb-true _ _ (all-whole f no3 (dataAt f) (data-is f no6 .0))
+
+  pub accepted-start : (found f) .start ≡ dataAt f + 8
+  unfolding accepted
+  accepted-start = rw accepted-found
+
+  pub accepted-length : (found f) .length ≡ sizeAt f (dataAt f)
+  unfolding accepted
+  accepted-length = rw accepted-found
 
   pub part-is-data : IsData f (found f)
   unfolding accepted part
@@ -183,6 +192,21 @@ module _ (f : List ℕ) (ok : answerOf f ≡ 0) where
         allowed = s .2;
       })
 
+  -- the `fmt `, with its 16 bytes, lies before the `data`
+  pub format-before : formatAt f + 24 ≤ dataAt f
+  format-before = turn (apart f (formatAt f) (dataAt f) (d .within) (b .0))
+    where
+      d : FormatIs f
+      d = format-is f no4
+
+      b : In (dataAt f) (chunks f) × (isData f (dataAt f) ≡ true)
+      b = data-is f no6
+
+      turn : Apart f (formatAt f) (dataAt f) → formatAt f + 24 ≤ dataAt f
+      turn (one e) = absurd (two-names f (dataAt f) (b .1) (subst (λ (p : ℕ). isFormat f p ≡ true) e (d .name)))
+      turn (up h l) = omega (arith, after-is f (formatAt f), d .size)
+      turn (down h l) = absurd (clash (isLast f (dataAt f)) (data-last f (b .0)) l)
+
 -- the part of any file lies in it: a refused one's is empty
 pub found-inside : (f : List ℕ) → (found f) .start + (found f) .length ≤ length f
 unfolding found
@@ -192,7 +216,7 @@ found-inside f = turn (answerOf f) refl
     turn zero q = part-is-data f q .inside
     turn (suc a) q = rw (q, eqb·suc-zero a) (omega arith)
 
-short-file : (f : List ℕ) → answerOf f ≡ 0 → length f ≤ 65536
+pub short-file : (f : List ℕ) → answerOf f ≡ 0 → length f ≤ 65536
 unfolding table tooLong
 short-file f ok = ltb-false 65536 (length f) (exactly-accepted f .0 ok 1 (omega arith) (omega arith))
 
@@ -203,4 +227,15 @@ found-small f = turn (answerOf f) refl
   where
     turn : (a : ℕ) → answerOf f ≡ a → (either (eqb (answerOf f) 0) (accepted f) (refused (answerOf f))) .start + (either (eqb (answerOf f) 0) (accepted f) (refused (answerOf f))) .length ≤ 65536
     turn zero q = let i = part-is-data f q .inside in omega (arith, short-file f q)
+    turn (suc a) q = rw (q, eqb·suc-zero a) (omega arith)
+
+-- no part is longer than 65,492 bytes, which are 32,746 samples: before it are RIFF's 12 bytes, a `fmt ` and the head of the `data`
+pub found-most : (f : List ℕ) → (found f) .length ≤ 65492
+unfolding found
+found-most f = turn (answerOf f) refl
+  where
+    turn : (a : ℕ) → answerOf f ≡ a → (either (eqb (answerOf f) 0) (accepted f) (refused (answerOf f))) .length ≤ 65492
+    turn zero q =
+        let w = part-is-data f q in
+        omega (arith, w .inside, accepted-start f q, format-before f q, places f (formatAt f) (format-is f (no4 f q) .within), short-file f q)
     turn (suc a) q = rw (q, eqb·suc-zero a) (omega arith)

@@ -18,7 +18,7 @@ use Rattle.wav_file.proofs.Part.{data-is, no4, no6}
 use Rattle.wav_file.proofs.Walks.{along-chunks, chunks-end, chunks-more}
 
 -- the same bytes at n places from `at` on
-abbrev SameFrom : List ℕ → List ℕ → ℕ → ℕ → Type 0
+abbrev pub SameFrom : List ℕ → List ℕ → ℕ → ℕ → Type 0
 SameFrom f g at n = (i : ℕ) → i < n → byte f (at + i) ≡ byte g (at + i)
 
 -- ---- numbers and names
@@ -45,7 +45,7 @@ same-name f g at h a b c d =
 
 -- ---- a chunk
 -- what its head says is the same
-record SameHead (f g : List ℕ) (at : ℕ) : Type 0 where
+pub record SameHead (f g : List ℕ) (at : ℕ) : Type 0 where
   pub size : sizeAt f at ≡ sizeAt g at
   pub fmt : isFormat f at ≡ isFormat g at
   pub dat : isData f at ≡ isData g at
@@ -53,9 +53,10 @@ record SameHead (f g : List ℕ) (at : ℕ) : Type 0 where
   pub aft : after f at ≡ after g at
   pub last : isLast f at ≡ isLast g at
 
-same-head : (f g : List ℕ) (at : ℕ) → length f ≡ length g → SameFrom f g at 8 → SameHead f g at
-unfolding sizeAt isFormat isData whole after isLast
-same-head f g at e h =
+-- by the eight bytes of the head, where the chunk lies in both files or in none
+pub same-head : (f g : List ℕ) (at : ℕ) → (sizeAt f at ≡ sizeAt g at → whole f at ≡ whole g at) → SameFrom f g at 8 → SameHead f g at
+unfolding sizeAt isFormat isData after isLast
+same-head f g at w h =
     let n : SameFrom f g at 4 = λ i l. h i (omega arith) in
     let s = same32 f g (at + 4) (shift f g at 8 4 4 h (omega arith)) in
     let d = same-name f g at n 100 97 116 97 in
@@ -63,28 +64,21 @@ same-head f g at e h =
       size = s;
       fmt = same-name f g at n 102 109 116 32;
       dat = d;
-      whol = rw (s, e);
+      whol = w s;
       aft = rw s;
-      last = rw (s, e, d);
+      last = rw (w s, d);
     }
 
--- ---- the two files
-module _ (f g : List ℕ) (e : length f ≡ length g) (h : (p : ℕ) → Looked f p → byte f p ≡ byte g p) where
-  heads : (at : ℕ) → In at (chunks f) → SameHead f g at
-  heads at i = same-head f g at e (λ j l. h (at + j) (head at i (omega arith) (omega arith)))
+-- one chunk more, and the rest of the walk is the same
+pub more : (f g : List ℕ) (at : ℕ) (rest : List ℕ) → at < length g → isLast f at ≡ false → SameHead f g at → rest ≡ chunksFrom g (after f at) → at ∷ rest ≡ chunksFrom g at
+more f g at rest k l q r =
+    sym
+    (chunks-more g at k
+    ∙ rw (sym (q .last) ∙ l) (ap (λ (t : List ℕ). at ∷ t) (ap (λ (p : ℕ). chunksFrom g p) (sym (q .aft)) ∙ sym r)))
 
-  same-chunks : chunks f ≡ chunks g
-  same-chunks =
-      along-chunks (λ at l. ((p : ℕ) → In p l → SameHead f g p) → l ≡ chunksFrom g at) f
-      (λ at k q. sym (chunks-end g at (omega arith)))
-      (λ at k l q. sym (chunks-more g at (omega arith) ∙ rw (sym (q at (inl refl) .last) ∙ l)))
-      (λ at rest k l r q.
-      sym
-      (chunks-more g at (omega arith)
-      ∙ rw (sym (q at (inl refl) .last) ∙ l)
-      (ap (λ (t : List ℕ). at ∷ t) (ap (λ (p : ℕ). chunksFrom g p) (sym (q at (inl refl) .aft)) ∙ sym (r (λ p i. q p (inr i)))))))
-      heads
-
+-- ---- two files that are too long or not together, with the same bytes wherever the first is looked at, and the same walk
+module _ (f g : List ℕ) (same1 : tooLong f ≡ tooLong g) (h : (p : ℕ) → Looked f p → byte f p ≡ byte g p)
+    (heads : (at : ℕ) → In at (chunks f) → SameHead f g at) (same-chunks : chunks f ≡ chunks g) where
   same-past : pastAt f ≡ pastAt g
   unfolding pastAt
   same-past =
@@ -100,10 +94,6 @@ module _ (f g : List ℕ) (e : length f ≡ length g) (h : (p : ℕ) → Looked 
   same-data = first-same (isData f) (isData g) (chunks f) (λ p i. heads p i .dat) ∙ ap (first (isData g)) same-chunks
 
   -- ---- the refusals
-  same1 : tooLong f ≡ tooLong g
-  unfolding tooLong
-  same1 = rw e
-
   same2 : notWave f ≡ notWave g
   unfolding notWave
   same2 =
@@ -175,7 +165,7 @@ module _ (f g : List ℕ) (e : length f ≡ length g) (h : (p : ℕ) → Looked 
   unfolding table
   same-table = rw (same1, same2, same3, same4, same5, same6, same7)
 
-  pub same-answer : answerOf f ≡ answerOf g
+  same-answer : answerOf f ≡ answerOf g
   unfolding answerOf
   same-answer = ap (λ (t : List Bool). either (getD t 1 false) 1 (either (getD t 2 false) 2 (either (getD t 3 false) 3 (either (getD t 4 false) 4 (either (getD t 5 false) 5 (either (getD t 6 false) 6 (either (getD t 7 false) 7 0))))))) same-table
 
@@ -185,10 +175,28 @@ module _ (f g : List ℕ) (e : length f ≡ length g) (h : (p : ℕ) → Looked 
       rw (← same-data, ← same-format, same32 f g (formatAt f + 12) (part-of (no4 f ok) 4 4 12 refl (omega arith)), heads (dataAt f) (data-is f (no6 f ok) .0) .size)
 
   -- the same answer, place, length and rate
-  pub same-found : found f ≡ found g
+  pub walked-alike : found f ≡ found g
   unfolding found
-  same-found = turn (answerOf f) refl ∙ ap (λ (a : ℕ). either (eqb a 0) (accepted g) (refused a)) same-answer
+  walked-alike = turn (answerOf f) refl ∙ ap (λ (a : ℕ). either (eqb a 0) (accepted g) (refused a)) same-answer
     where
       turn : (a : ℕ) → answerOf f ≡ a → either (eqb (answerOf f) 0) (accepted f) (refused (answerOf f)) ≡ either (eqb (answerOf f) 0) (accepted g) (refused (answerOf f))
       turn zero q = rw (same-accepted q)
       turn (suc a) q = rw (q, eqb·suc-zero a)
+
+-- ---- two files of one length
+module _ (f g : List ℕ) (e : length f ≡ length g) (h : (p : ℕ) → Looked f p → byte f p ≡ byte g p) where
+  heads : (at : ℕ) → In at (chunks f) → SameHead f g at
+  unfolding whole
+  heads at i = same-head f g at (λ s. rw (s, e)) (λ j l. h (at + j) (head at i (omega arith) (omega arith)))
+
+  same-chunks : chunks f ≡ chunks g
+  same-chunks =
+      along-chunks (λ at l. ((p : ℕ) → In p l → SameHead f g p) → l ≡ chunksFrom g at) f
+      (λ at k q. sym (chunks-end g at (omega arith)))
+      (λ at k l q. sym (chunks-more g at (omega arith) ∙ rw (sym (q at (inl refl) .last) ∙ l)))
+      (λ at rest k l r q. more f g at rest (omega arith) l (q at (inl refl)) (r (λ p i. q p (inr i))))
+      heads
+
+  pub same-found : found f ≡ found g
+  unfolding tooLong
+  same-found = walked-alike f g (rw e) h heads same-chunks

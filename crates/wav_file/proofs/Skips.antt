@@ -14,43 +14,10 @@ use Rattle.wav_file.specs.Riff.{sizeAt, isFormat, isData, whole, after, 
 use Rattle.wav_file.specs.Find.{formatAt, dataAt, found}
 use Rattle.wav_file.specs.Walked.{In, Looked, riff, wave, head, format, Skipped, size, pad, content, beyond, behind}
 use Rattle.wav_file.proofs.Firsts.{clash, first-hit}
+use Rattle.wav_file.proofs.Apart.{Apart, one, up, down, apart, after-is, data-named, data-last, two-names}
 use Rattle.wav_file.proofs.Part.{format-is}
 use Rattle.wav_file.proofs.Walks.{after-more, along-chunks, places}
 use Rattle.wav_file.proofs.Same.{same-found}
-
--- ---- two walked chunks are one, or one lies behind the other and that other isn't the walk's last
-data Apart (f : List ℕ) (a b : ℕ) : Type 0 where
-  one : a ≡ b → Apart f a b
-  up : after f a ≤ b → isLast f a ≡ false → Apart f a b
-  down : after f b ≤ a → isLast f b ≡ false → Apart f a b
-
-apart : (f : List ℕ) (a b : ℕ) → In a (chunks f) → In b (chunks f) → Apart f a b
-apart f a b =
-    along-chunks (λ at l. ((p : ℕ) → In p l → at ≤ p) × (In a l → In b l → Apart f a b)) f
-    (λ at h. ((λ p i. absurd i), (λ i. absurd i)))
-    (λ at h l. (
-      (λ p i. ⊎-elim (λ (e : p ≡ at). omega arith) (λ i. absurd i) i),
-      (λ i j. ⊎-elim (λ (e : a ≡ at). ⊎-elim (λ (u : b ≡ at). one (e ∙ sym u)) (λ j. absurd j) j) (λ i. absurd i) i),
-    ))
-    (λ at rest h l r. (
-      (λ p i. ⊎-elim (λ (e : p ≡ at). omega arith) (λ (j : In p rest). omega (arith, r .0 p j, after-more f at)) i),
-      (λ i j.
-          ⊎-elim
-          (λ (e : a ≡ at).
-          ⊎-elim (λ (u : b ≡ at). one (e ∙ sym u))
-          (λ (k : In b rest). up (subst (λ (x : ℕ). after f x ≤ b) (sym e) (r .0 b k)) (subst (λ (x : ℕ). isLast f x ≡ false) (sym e) l))
-          j)
-          (λ (m : In a rest).
-          ⊎-elim (λ (u : b ≡ at). down (subst (λ (x : ℕ). after f x ≤ a) (sym u) (r .0 a m)) (subst (λ (x : ℕ). isLast f x ≡ false) (sym u) l))
-          (λ (k : In b rest). r .1 m k)
-          j)
-          i),
-    ))
-    .1
-
-after-is : (f : List ℕ) (at : ℕ) → after f at ≡ at + 8 + sizeAt f at + sizeAt f at % 2
-unfolding after
-after-is f at = refl
 
 -- ---- the head of a walked chunk, and the bytes of the first `fmt `
 -- a place from at + 8 on and before the chunk behind is in no head
@@ -75,31 +42,6 @@ last-format : (f : List ℕ) (p a b : ℕ) → isLast f a ≡ true → (a ≡ b 
 last-format f p a b t n (one e) s l k v = n e
 last-format f p a b t n (up g w) s l k v = clash (isLast f a) t w
 last-format f p a b t n (down g w) s l k v = omega (arith, after-is f b)
-
--- ---- the first `data`
-or-true : (b c : Bool) → c ≡ true → not b || c ≡ true
-or-true true c h = h
-or-true false c h = refl
-
-and-first : (b c : Bool) → b && c ≡ true → b ≡ true
-and-first true c h = refl
-and-first false c h = h
-
-data-named : (f : List ℕ) → In (dataAt f) (chunks f) → isData f (dataAt f) ≡ true
-unfolding dataAt
-data-named f i = first-hit (isData f) (chunks f) (omega (arith, places f (dataAt f) i)) .1
-
-data-last : (f : List ℕ) → In (dataAt f) (chunks f) → isLast f (dataAt f) ≡ true
-unfolding isLast
-data-last f i = or-true (whole f (dataAt f)) (isData f (dataAt f)) (data-named f i)
-
--- no chunk has both names
-pub two-names : (f : List ℕ) (at : ℕ) → isData f at ≡ true → isFormat f at ≡ true → ⊥
-unfolding isData isFormat named
-two-names f at d n =
-    let u = eqb-true (byte f at) 100 (and-first (eqb (byte f at) 100) _ d) in
-    let v = eqb-true (byte f at) 102 (and-first (eqb (byte f at) 102) _ n) in
-    omega arith
 
 -- ---- what is passed over is not looked at
 pub not-looked : (f : List ℕ) (p : ℕ) → Skipped f p → Looked f p → ⊥

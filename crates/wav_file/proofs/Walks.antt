@@ -1,9 +1,9 @@
 -- The walk over the chunks, one chunk at a time; which places it passes. Assumes nothing.
-use Prim.Native.Nat.{ℕ, zero, suc, _+_, _-_, _≤_, _<_}
+use Prim.Native.Nat.{ℕ, zero, suc, _+_, _-_, _*_, _≤_, _<_}
 use native.Mathlib.Omega.{arith}
 use mathlib.Core.Path.{_≡_, refl, sym, ap, _∙_, subst}
 use mathlib.Core.Logic.{inl, inr, ⊎-elim, _↔_}
-use mathlib.Core.Bool.{Bool, true, false, not, _||_}
+use mathlib.Core.Bool.{Bool, true, false, not, _||_, true≢false}
 use mathlib.Core.List.{List, [], _∷_}
 use lib.ListN.{length}
 use lib.Dec.{ltb}
@@ -11,6 +11,7 @@ use borrow.Author.Tests.{ltb-true, ltb-false, lt-ltb, le-ltb}
 use Rattle.fixed.specs.Iter.{either}
 use Rattle.wav_file.specs.Riff.{isData, whole, after, isLast, walk, chunksFrom, chunks}
 use Rattle.wav_file.specs.Walked.{In, Walked, start, next}
+use Rattle.wav_file.proofs.Firsts.{clash}
 
 -- a chunk takes eight bytes at least
 pub after-more : (f : List ℕ) (at : ℕ) → at + 8 ≤ after f at
@@ -71,11 +72,7 @@ along-chunks Q f e l m = along Q f e l m (length f - 12) 12 (omega arith)
 -- ---- the last of a walk
 last-parts : (b c : Bool) → not b || c ≡ false → (b ≡ true) × (c ≡ false)
 last-parts true c h = (refl, h)
-last-parts false c h = absurd (let z : true ≡ false = h in omega (arith, ap code z))
-  where
-    code : Bool → ℕ
-    code true = 1
-    code false = 0
+last-parts false c h = absurd (true≢false h)
 
 pub not-last : (f : List ℕ) (at : ℕ) → isLast f at ≡ false → (whole f at ≡ true) × (isData f at ≡ false)
 unfolding isLast
@@ -112,19 +109,12 @@ next-in : (f : List ℕ) (p : ℕ) → isLast f p ≡ false → after f p < leng
 next-in f p w k =
     along-chunks (λ at l. (at < length f → In at l) × (In p l → In (after f p) l)) f
     (λ at h. ((λ g. absurd (omega arith)), (λ i. absurd i)))
-    (λ at h l. ((λ g. inl refl), (λ i. ⊎-elim (λ (e : p ≡ at). absurd (ends (isLast f at) l (subst (λ (x : ℕ). isLast f x ≡ false) e w))) (λ i. absurd i) i)))
+    (λ at h l. ((λ g. inl refl), (λ i. ⊎-elim (λ (e : p ≡ at). absurd (clash (isLast f at) l (subst (λ (x : ℕ). isLast f x ≡ false) e w))) (λ i. absurd i) i)))
     (λ at rest h l q. (
       (λ g. inl refl),
       (λ i. ⊎-elim (λ (e : p ≡ at). inr (rw e (q .0 (subst (λ (x : ℕ). after f x < length f) e k)))) (λ (i : In p rest). inr (q .1 i)) i),
     ))
     .1
-  where
-    code : Bool → ℕ
-    code true = 1
-    code false = 0
-
-    ends : (b : Bool) → b ≡ true → b ≡ false → ⊥
-    ends b t u = omega (arith, ap code (sym t ∙ u))
 
 first-in : (f : List ℕ) → 12 < length f → In 12 (chunks f)
 first-in f h = rw (chunks-more f 12 h) (inl refl)
@@ -136,3 +126,16 @@ walked-in f p (next {at = at} w u d h) = next-in f at (is-not-last f at u d) h (
 -- the list has exactly the walked chunks
 pub walked-exactly : (f : List ℕ) (p : ℕ) → Walked f p ↔ In p (chunks f)
 walked-exactly f p = (walked-in f p, in-walked f p)
+
+-- ---- how many there are
+-- each takes eight bytes at least, but for the last, which takes one
+few-from : (f : List ℕ) → 8 * length (chunks f) ≤ length f + 7 - 12
+few-from f =
+    along-chunks (λ at l. 8 * length l ≤ length f + 7 - at) f
+    (λ at h. omega arith)
+    (λ at h l. omega arith)
+    (λ at rest h l q. omega (arith, after-more f at))
+
+-- so no more than 8,191 are walked, in a file that isn't too long
+pub few-chunks : (f : List ℕ) → length f ≤ 65536 → length (chunks f) ≤ 8191
+few-chunks f h = omega (arith, few-from f)

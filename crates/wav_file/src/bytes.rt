@@ -16,7 +16,9 @@ pub fn word16(s: &[u8], at: usize) -> u32
     ensures value { λ r. ⌜ r ≡ word16Of (now (s .entry)) at ⌝ }
     ensures small { λ r. ⌜ r < 65536 ⌝ }
 {
-    wide(s[at]) + 256 * wide(s[at + 1])
+    let low = wide(s[at]);
+    let high = wide(s[at + 1]);
+    low + 256 * high
 }
 
 // Four bytes, low byte first.

@@ -2,7 +2,7 @@
 ghost use mathlib.Core.Path.{_≡_};
 ghost use mathlib.Core.Bool.{true};
 ghost use Prim.Native.Nat.{_+_, _≤_, _<_};
-ghost use Rattle.wav_file.specs.Riff.{sizeAt, isFormat, isData, whole, after as afterAt};
+ghost use Rattle.wav_file.specs.Riff.{sizeAt, whole, after as afterAt};
 ghost use Rattle.wav_file.specs.Marks.{marksOf, formatWith};
 use crate::bytes;
 
@@ -16,26 +16,14 @@ pub struct Marks {
 // The length of the content of the chunk at a place.
 pub fn size_at(file: &[u8], at: usize) -> usize
     requires { do ⌜ at + 8 ≤ (← ⟦file.len()⟧) ⌝ }
-    ensures { λ r. ⌜ r ≡ sizeAt (now (file .entry)) at ⌝ }
+    ensures value { λ r. ⌜ r ≡ sizeAt (now (file .entry)) at ⌝ }
+    ensures small { λ r. ⌜ r < 4294967296 ⌝ }
 {
     bytes::word32(file, at + 4) as usize
 }
 
-fn is_format(file: &[u8], at: usize) -> bool
-    requires { do ⌜ at + 8 ≤ (← ⟦file.len()⟧) ⌝ }
-    ensures { λ r. ⌜ r ≡ isFormat (now (file .entry)) at ⌝ }
-{
-    bytes::named(file, at, b'f', b'm', b't', b' ')
-}
-
-fn is_data(file: &[u8], at: usize) -> bool
-    requires { do ⌜ at + 8 ≤ (← ⟦file.len()⟧) ⌝ }
-    ensures { λ r. ⌜ r ≡ isData (now (file .entry)) at ⌝ }
-{
-    bytes::named(file, at, b'd', b'a', b't', b'a')
-}
-
-// Whether the chunk's head and content lie in the file. The length is compared with what is left, so nothing comes round.
+// Whether the chunk's head and content lie in the file: what they need is compared with what is left. A length is below 2^32 and the sum has 64
+// bits, so it doesn't come round.
 fn is_whole(file: &[u8], at: usize) -> bool
     requires { do ⌜ at < (← ⟦file.len()⟧) ⌝ }
     ensures { λ r. ⌜ r ≡ whole (now (file .entry)) at ⌝ }
@@ -44,7 +32,11 @@ fn is_whole(file: &[u8], at: usize) -> bool
     if left < 8 {
         return false;
     }
-    size_at(file, at) <= left - 8
+    let need = 8 + size_at(file, at);
+    if left < need {
+        return false;
+    }
+    true
 }
 
 // The place behind a chunk that lies in the file, and behind its pad byte.
@@ -65,7 +57,7 @@ fn format_with(file: &[u8], at: usize, format: usize) -> usize
     if format != 0 {
         return format;
     }
-    if is_format(file, at) {
+    if bytes::named(file, at, b'f', b'm', b't', b' ') {
         return at;
     }
     0
@@ -86,14 +78,14 @@ pub fn walk(file: &[u8]) -> Marks
                 body: 0,
             };
         }
-        if is_data(file, at) {
+        format = format_with(file, at, format);
+        if bytes::named(file, at, b'd', b'a', b't', b'a') {
             return Marks {
                 past: false,
                 format: format,
                 body: at,
             };
         }
-        format = format_with(file, at, format);
         at = after(file, at);
     }
     Marks {

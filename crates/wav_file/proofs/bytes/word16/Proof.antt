@@ -29,10 +29,9 @@ add-result c = search needs
 returns : tie.Need-returns
 unfolding word16
 returns c =
-    let p = c .before .before in
-    let x = p .wide .ensures .0 in
-    let y = c .wide2 .ensures .0 in
-    (rw (x, y), omega (arith, p .wide .ensures .1, c .wide2 .ensures .1))
+    let low = c .before .before .wide .ensures in
+    let high = c .wide2 .ensures in
+    (omega (arith, low .0, high .0), omega (arith, low .1, high .1))
 
 pub word16-spec : {M : Type 1} → statement M
 word16-spec =

@@ -12,21 +12,21 @@ size-at-requires c κs = omega (arith, whole-le (now (c .before .args .file)) (c
 add-result : tie.Need-add-result
 add-result c =
     let s = c .before .before in
-    omega (arith, whole-le (now (s .args .file)) (s .args .at) (s .pre .1), s .pre .0, c .size-at .ensures)
+    omega (arith, whole-le (now (s .args .file)) (s .args .at) (s .pre .1), s .pre .0, c .size-at .ensures .0)
 
 add-result-2 : tie.Need-add-result-2
 add-result-2 c =
     let s = c .before .before in
-    omega (arith, whole-le (now (s .args .file)) (s .args .at) (s .pre .1), s .pre .0, c .size-at .ensures)
+    omega (arith, whole-le (now (s .args .file)) (s .args .at) (s .pre .1), s .pre .0, c .size-at .ensures .0)
 
 add-result-3 : tie.Need-add-result-3
 add-result-3 c =
     let s = c .before .before in
-    omega (arith, whole-le (now (s .args .file)) (s .args .at) (s .pre .1), s .pre .0, c .size-at .ensures)
+    omega (arith, whole-le (now (s .args .file)) (s .args .at) (s .pre .1), s .pre .0, c .size-at .ensures .0)
 
 returns : tie.Need-returns
 unfolding after
-returns c = rw (c .size-at .ensures)
+returns c = omega (arith, c .size-at .ensures .0)
 
 pub after-spec : {M : Type 1} → statement M
 after-spec = tie.close (tie.spec size-at-requires add-result add-result-2 add-result-3 returns)

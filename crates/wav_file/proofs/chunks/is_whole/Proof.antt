@@ -5,7 +5,7 @@ use native.Mathlib.Omega.{arith}
 use lib.ListN.{length}
 use denote.Ref.{now}
 use borrow.Author.Needs.{needs}
-use Rattle.wav_file.proofs.Going.{whole-left, no-head}
+use Rattle.wav_file.proofs.Going.{is-whole, not-whole, no-head}
 use Rattle.wav_file.proofs.chunks.is_whole.Statement.{statement}
 use Rattle.wav_file.proofs.chunks.is_whole.Tie as tie
 
@@ -20,11 +20,20 @@ returns c =
 size-at-requires : tie.Need-size-at-requires
 size-at-requires c κs = search needs
 
+add-need : tie.Need-add-need
+add-need c = search needs
+
 returns-2 : tie.Need-returns-2
 returns-2 c =
-    let a = c .before .before .before .args in
-    let h : a .at + 8 ≤ length (now (a .file)) = omega arith in
-    rw (c .size-at .ensures) (whole-left (now (a .file)) (a .at) h)
+    let s = c .before in
+    let a = s .before .before .before .args in
+    sym (not-whole (now (a .file)) (a .at) (omega (arith, s .size-at .ensures .0, c .if2 .taken)))
+
+returns-3 : tie.Need-returns-3
+returns-3 c =
+    let s = c .before in
+    let a = s .before .before .before .args in
+    sym (is-whole (now (a .file)) (a .at) (omega (arith, s .size-at .ensures .0, c .if2 .left)))
 
 pub is-whole-spec : {M : Type 1} → statement M
-is-whole-spec = tie.close (tie.spec sub-left returns size-at-requires returns-2)
+is-whole-spec = tie.close (tie.spec sub-left returns size-at-requires add-need returns-2 returns-3)

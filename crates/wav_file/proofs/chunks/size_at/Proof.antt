@@ -15,7 +15,7 @@ cast-result c = search needs
 
 returns : tie.Need-returns
 unfolding sizeAt
-returns c = c .word32 .ensures
+returns c = (c .word32 .ensures, search needs)
 
 pub size-at-spec : {M : Type 1} → statement M
 size-at-spec = tie.close (tie.spec add-word32 word32-requires cast-result returns)

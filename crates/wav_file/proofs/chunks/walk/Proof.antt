@@ -6,6 +6,7 @@ use lib.ListN.{length}
 use denote.Ref.{now}
 use borrow.Author.Needs.{needs}
 use borrow.Author.Tests.{not-true, not-false}
+use Rattle.wav_file.specs.Riff.{isData}
 use Rattle.wav_file.proofs.Going.{Going, going-start, going-past, going-data, going-next, going-end, whole-le}
 use Rattle.wav_file.proofs.Walks.{after-more}
 use Rattle.wav_file.proofs.chunks.walk.Statement.{statement}
@@ -30,29 +31,32 @@ returns c =
     let f = now (l .before .before .args .file) in
     sym (going-past f (l .loop .format) (l .loop .at) (l .loop .inv) (p .before .loop-test .taken) (sym (p .is-whole .ensures) ∙ not-true _ (c .if1 .taken)))
 
-is-data-requires : tie.Need-is-data-requires Inv-loop μ-loop
-is-data-requires c κs =
+format-with-requires : tie.Need-format-with-requires Inv-loop μ-loop
+format-with-requires c κs =
     let p = c .before in
     let l = p .before .before in
     omega (arith, whole-le (now (l .before .before .args .file)) (l .loop .at) (sym (p .is-whole .ensures) ∙ not-false _ (c .if1 .left)))
 
-returns-2 : tie.Need-returns-2 Inv-loop μ-loop
-returns-2 c =
-    let q = c .before in
-    let e = q .before in
-    let p = e .before in
-    let l = p .before .before in
-    let f = now (l .before .before .args .file) in
-    sym
-    (going-data f (l .loop .format) (l .loop .at) (l .loop .inv) (p .before .loop-test .taken) (sym (p .is-whole .ensures) ∙ not-false _ (e .if1 .left))
-    (sym (q .is-data .ensures) ∙ c .if2 .taken))
-
-format-with-requires : tie.Need-format-with-requires Inv-loop μ-loop
-format-with-requires c κs =
-    let e = c .before .before in
+named-requires : tie.Need-named-requires Inv-loop μ-loop
+named-requires c κs =
+    let e = c .before in
     let p = e .before in
     let l = p .before .before in
     omega (arith, whole-le (now (l .before .before .args .file)) (l .loop .at) (sym (p .is-whole .ensures) ∙ not-false _ (e .if1 .left)))
+
+returns-2 : tie.Need-returns-2 Inv-loop μ-loop
+unfolding isData
+returns-2 c =
+    let q = c .before in
+    let w = q .before in
+    let e = w .before in
+    let p = e .before in
+    let l = p .before .before in
+    let f = now (l .before .before .args .file) in
+    rw (w .format-with .ensures)
+    (sym
+    (going-data f (l .loop .format) (l .loop .at) (l .loop .inv) (p .before .loop-test .taken) (sym (p .is-whole .ensures) ∙ not-false _ (e .if1 .left))
+    (sym (q .named .ensures) ∙ c .if2 .taken)))
 
 after-requires : tie.Need-after-requires Inv-loop μ-loop
 after-requires c κs =
@@ -66,17 +70,18 @@ loop-less c =
     omega (arith, c .after .ensures, after-more (now (l .before .before .args .file)) (l .loop .at))
 
 loop-again : tie.Need-loop-again Inv-loop μ-loop
+unfolding isData
 loop-again c =
-    let w = c .before in
-    let d = w .before in
+    let d = c .before in
     let q = d .before in
-    let e = q .before in
+    let w = q .before in
+    let e = w .before in
     let p = e .before in
     let l = p .before .before in
     let f = now (l .before .before .args .file) in
     rw (w .format-with .ensures, c .after .ensures)
     (going-next f (l .loop .format) (l .loop .at) (l .loop .inv) (p .before .loop-test .taken) (sym (p .is-whole .ensures) ∙ not-false _ (e .if1 .left))
-    (sym (q .is-data .ensures) ∙ d .if2 .left))
+    (sym (q .named .ensures) ∙ d .if2 .left))
 
 returns-3 : tie.Need-returns-3 Inv-loop μ-loop
 returns-3 c =
@@ -92,9 +97,9 @@ walk-spec =
     loop-holds
     is-whole-requires
     returns
-    is-data-requires
-    returns-2
     format-with-requires
+    named-requires
+    returns-2
     after-requires
     loop-less
     loop-again

@@ -43,7 +43,7 @@ returns-3 c =
     let e1 = e2 .before in
     let s = e1 .before .before in
     c .refused3 .ensures
-    ∙ sym (give4-short (now (s .args .file)) (s .args .m) (s .pre .0) (s .pre .1 .0) (s .pre .1 .1) (e1 .if1 .left) (e2 .if2 .left) (rw (z .size-at .ensures) at (t .if3 .taken)))
+    ∙ sym (give4-short (now (s .args .file)) (s .args .m) (s .pre .0) (s .pre .1 .0) (s .pre .1 .1) (e1 .if1 .left) (e2 .if2 .left) (rw (z .size-at .ensures .0) at (t .if3 .taken)))
 
 other-sound-requires : tie.Need-other-sound-requires
 other-sound-requires c κs =
@@ -51,7 +51,7 @@ other-sound-requires c κs =
     let e2 = z .before in
     let e1 = e2 .before in
     let s = e1 .before .before in
-    omega (arith, c .if3 .left, z .size-at .ensures, format-fits (now (s .args .file)) (s .args .m) (s .pre .0) (s .pre .1 .0) (s .pre .1 .1) (e1 .if1 .left) (e2 .if2 .left))
+    omega (arith, c .if3 .left, z .size-at .ensures .0, format-fits (now (s .args .file)) (s .args .m) (s .pre .0) (s .pre .1 .0) (s .pre .1 .1) (e1 .if1 .left) (e2 .if2 .left))
 
 refused-requires-4 : tie.Need-refused-requires-4
 refused-requires-4 c κs = search needs
@@ -67,7 +67,7 @@ returns-4 c =
     let s = e1 .before .before in
     c .refused4 .ensures
     ∙ sym
-    (give5 (now (s .args .file)) (s .args .m) (s .pre .0) (s .pre .1 .0) (s .pre .1 .1) (e1 .if1 .left) (e2 .if2 .left) (rw (z .size-at .ensures) at (e3 .if3 .left))
+    (give5 (now (s .args .file)) (s .args .m) (s .pre .0) (s .pre .1 .0) (s .pre .1 .1) (e1 .if1 .left) (e2 .if2 .left) (rw (z .size-at .ensures .0) at (e3 .if3 .left))
     (sym (o .other-sound .ensures) ∙ t .if4 .taken))
 
 refused-requires-5 : tie.Need-refused-requires-5
@@ -85,7 +85,7 @@ returns-5 c =
     let s = e1 .before .before in
     c .refused5 .ensures
     ∙ sym
-    (give6 (now (s .args .file)) (s .args .m) (s .pre .0) (s .pre .1 .0) (s .pre .1 .1) (e1 .if1 .left) (e2 .if2 .left) (rw (z .size-at .ensures) at (e3 .if3 .left))
+    (give6 (now (s .args .file)) (s .args .m) (s .pre .0) (s .pre .1 .0) (s .pre .1 .1) (e1 .if1 .left) (e2 .if2 .left) (rw (z .size-at .ensures .0) at (e3 .if3 .left))
     (sym (o .other-sound .ensures) ∙ e4 .if4 .left)
     (t .if5 .taken))
 
@@ -101,7 +101,7 @@ size-at-requires-2 c κs =
     omega (
       arith,
       body-fits (now (s .args .file)) (s .args .m) (s .pre .0) (s .pre .1 .0) (s .pre .1 .1) (e1 .if1 .left) (e2 .if2 .left)
-          (rw (z .size-at .ensures) at (e3 .if3 .left))
+          (rw (z .size-at .ensures .0) at (e3 .if3 .left))
           (sym (o .other-sound .ensures) ∙ e4 .if4 .left)
           (c .if5 .left),
     )
@@ -123,10 +123,10 @@ returns-6 c =
     let s = e1 .before .before in
     c .refused6 .ensures
     ∙ sym
-    (give7 (now (s .args .file)) (s .args .m) (s .pre .0) (s .pre .1 .0) (s .pre .1 .1) (e1 .if1 .left) (e2 .if2 .left) (rw (z .size-at .ensures) at (e3 .if3 .left))
+    (give7 (now (s .args .file)) (s .args .m) (s .pre .0) (s .pre .1 .0) (s .pre .1 .1) (e1 .if1 .left) (e2 .if2 .left) (rw (z .size-at .ensures .0) at (e3 .if3 .left))
     (sym (o .other-sound .ensures) ∙ e4 .if4 .left)
     (e5 .if5 .left)
-    (rw (y .size-at2 .ensures) at (t .if6 .taken)))
+    (rw (y .size-at2 .ensures .0) at (t .if6 .taken)))
 
 add-word32 : tie.Need-add-word32
 add-word32 c =
@@ -144,7 +144,7 @@ word32-requires c κs =
     let e1 = e2 .before in
     let s = e1 .before .before in
     omega
-    (arith, e3 .if3 .left, z .size-at .ensures, format-fits (now (s .args .file)) (s .args .m) (s .pre .0) (s .pre .1 .0) (s .pre .1 .1) (e1 .if1 .left) (e2 .if2 .left))
+    (arith, e3 .if3 .left, z .size-at .ensures .0, format-fits (now (s .args .file)) (s .args .m) (s .pre .0) (s .pre .1 .0) (s .pre .1 .1) (e1 .if1 .left) (e2 .if2 .left))
 
 add-t9 : tie.Need-add-t9
 add-t9 c =
@@ -160,7 +160,7 @@ add-t9 c =
       arith,
       s .pre .0,
       body-fits (now (s .args .file)) (s .args .m) (s .pre .0) (s .pre .1 .0) (s .pre .1 .1) (e1 .if1 .left) (e2 .if2 .left)
-          (rw (z .size-at .ensures) at (e3 .if3 .left))
+          (rw (z .size-at .ensures .0) at (e3 .if3 .left))
           (sym (o .other-sound .ensures) ∙ e4 .if4 .left)
           (e5 .if5 .left),
     )
@@ -177,12 +177,12 @@ returns-7 c =
     let e2 = z .before in
     let e1 = e2 .before in
     let s = e1 .before .before in
-    rw (y .size-at2 .ensures, c .word32 .ensures)
+    rw (y .size-at2 .ensures .0, c .word32 .ensures)
     (sym
-    (give0 (now (s .args .file)) (s .args .m) (s .pre .0) (s .pre .1 .0) (s .pre .1 .1) (e1 .if1 .left) (e2 .if2 .left) (rw (z .size-at .ensures) at (e3 .if3 .left))
+    (give0 (now (s .args .file)) (s .args .m) (s .pre .0) (s .pre .1 .0) (s .pre .1 .1) (e1 .if1 .left) (e2 .if2 .left) (rw (z .size-at .ensures .0) at (e3 .if3 .left))
     (sym (o .other-sound .ensures) ∙ e4 .if4 .left)
     (e5 .if5 .left)
-    (rw (y .size-at2 .ensures) at (e6 .if6 .left))))
+    (rw (y .size-at2 .ensures .0) at (e6 .if6 .left))))
 
 pub judged-spec : {M : Type 1} → statement M
 judged-spec =
