@@ -1,9 +1,16 @@
 #!/usr/bin/env python3
 """vowel.py > vowel.sheet: a call sheet with 20 ms of a sung vowel at 16000 samples a second, one frame of 4 subframes of 80 samples, coded with
-one path. It shows what a call is made of; a real encoder works its numbers out with more care. Nothing but Python's own library."""
-from math import cos, exp, pi, sin
+one path. It shows what a call is made of; a real encoder works its numbers out with more care.
 
-L, N_SUBFRAMES, ORDER, SHAPING, LAG = 80, 4, 16, 16, 128
+vowel.py wav > vowel.wav: the same vowel, 60 ms of it, so three frames, as a WAV file. Before its samples it has a chunk of an odd length with a
+title, which a reader has to walk over.
+
+Nothing but Python's own library."""
+import sys
+from math import cos, exp, pi, sin
+from struct import pack
+
+RATE, L, N_SUBFRAMES, ORDER, SHAPING, LAG = 16000, 80, 4, 16, 16, 128
 N = L * N_SUBFRAMES
 
 
@@ -13,7 +20,7 @@ def vowel(length):
     for start in range(0, length, LAG):
         for hertz, width, height in ((700, 90, 3000), (1220, 110, 1700), (2600, 160, 700)):
             for i in range(start, length):
-                t = (i - start) / 16000
+                t = (i - start) / RATE
                 out[i] += height * exp(-pi * width * t) * sin(2 * pi * hertz * t)
     return [round(v) for v in out]
 
@@ -35,18 +42,40 @@ def section(numbers):
     print(len(numbers), *numbers)
 
 
-x = vowel(N)
-a = predictor(x, ORDER)
-pred = [round(4096 * v * 0.99 ** (k + 1)) for k, v in enumerate(a)]
-shape = [round(8192 * v * 0.7 ** (k + 1)) for k, v in enumerate(a[:SHAPING])]
-# L, n, prediction order, shaping order, paths, warping, signal type (voiced), offset type, interpolation, seed, Lambda, LTP scale
-section([L, N_SUBFRAMES, ORDER, SHAPING, 1, 0, 2, 0, 4, 1, 900, 14000])
-section(x)
-section(pred + pred)
-section([0, 2000, 9000, 2000, 0] * N_SUBFRAMES)
-section((shape + [0] * (24 - SHAPING)) * N_SUBFRAMES)
-section([3000] * N_SUBFRAMES)
-section([-4000] * N_SUBFRAMES)
-section([0] * N_SUBFRAMES)
-section([65536 * 40] * N_SUBFRAMES)
-section([LAG] * N_SUBFRAMES)
+def sheet():
+    x = vowel(N)
+    a = predictor(x, ORDER)
+    pred = [round(4096 * v * 0.99 ** (k + 1)) for k, v in enumerate(a)]
+    shape = [round(8192 * v * 0.7 ** (k + 1)) for k, v in enumerate(a[:SHAPING])]
+    # L, n, prediction order, shaping order, paths, warping, signal type (voiced), offset type, interpolation, seed, Lambda, LTP scale
+    section([L, N_SUBFRAMES, ORDER, SHAPING, 1, 0, 2, 0, 4, 1, 900, 14000])
+    section(x)
+    section(pred + pred)
+    section([0, 2000, 9000, 2000, 0] * N_SUBFRAMES)
+    section((shape + [0] * (24 - SHAPING)) * N_SUBFRAMES)
+    section([3000] * N_SUBFRAMES)
+    section([-4000] * N_SUBFRAMES)
+    section([0] * N_SUBFRAMES)
+    section([65536 * 40] * N_SUBFRAMES)
+    section([LAG] * N_SUBFRAMES)
+
+
+def chunk(name, content):
+    """a chunk of a WAV file: name, length, content, and a pad byte where the length is odd"""
+    return name + pack('<I', len(content)) + content + bytes(len(content) % 2)
+
+
+def wav():
+    x = vowel(3 * N)
+    form = pack('<HHIIHH', 1, 1, RATE, 2 * RATE, 2, 16)  # PCM, channels, samples and bytes a second, bytes a frame, bits a sample
+    title = b'INFO' + b'INAM' + pack('<I', 5) + b'vowel'
+    chunks = b'WAVE' + chunk(b'fmt ', form) + chunk(b'LIST', title) + chunk(b'data', pack(f'<{len(x)}h', *x))
+    sys.stdout.buffer.write(chunk(b'RIFF', chunks))
+
+
+if sys.argv[1:] == []:
+    sheet()
+elif sys.argv[1:] == ['wav']:
+    wav()
+else:
+    sys.exit('usage: vowel.py > vowel.sheet, or vowel.py wav > vowel.wav')

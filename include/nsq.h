@@ -8,8 +8,10 @@
  *
  * All functions may be called with anything: they hold no state of their own, keep no pointer, allocate nothing and ask nothing
  * of their numbers. Each row is a pointer and its length IN ELEMENTS. What the caller owes is what C cannot check:
- *   - behind each pointer there are as many elements as its length says (length 0: any pointer, NULL too, nothing is read);
- *   - rows that are written (settings, samples, words, pulses, report, excitation) overlap no other row of the same call;
+ *   - behind each pointer there are as many elements as its length says (length 0: any pointer, NULL too, nothing is read); start, length and
+ *     rate of nsq_wav_find have no length: behind each of them there is one number;
+ *   - rows that are written (settings, samples, words, pulses, report, excitation, row) overlap no other row of the same call; start, length
+ *     and rate are three different numbers, none of them in the file;
  *   - NSQ_STACK bytes of stack are free.
  * A call may run at the same time as others on other rows. */
 #ifndef NSQ_H
@@ -18,13 +20,14 @@
 #include <stddef.h>
 #include <stdint.h>
 
-/* The version of the library. bindings/rust/Cargo.toml has the same, nsq.pc takes it from here. 0.2.0: a fresh state has a lag. */
-#define NSQ_VERSION "0.2.0"
+/* The version of the library. bindings/rust/Cargo.toml has the same, nsq.pc takes it from here. 0.2.0: a fresh state has a lag. 0.3.0: WAV files
+ * are read. */
+#define NSQ_VERSION "0.3.0"
 
 /* A call needs at most this many bytes of stack, 48 KB: measured, not proved. On a painted stack (tests/compare/stack.c; calls of every L,
  * voiced and not, each with 1 to 4 paths) nsq_del_dec_report used 44,344 bytes on x86-64, 44,160 on aarch64 and 45,376 on riscv64 (these two
- * under qemu-user); nsq_del_dec 160 to 224 less. A program that is linked dynamically looks up memcpy and its like in the first call that
- * needs them: that took up to 3,024 bytes more. */
+ * under qemu-user); nsq_del_dec 160 to 224 less; the two functions for WAV files 16 to 64, on the longest files. A program that is linked
+ * dynamically looks up memcpy and its like in the first call that needs them: that took up to 3,024 bytes more. */
 #define NSQ_STACK 49152
 
 #ifdef __cplusplus
@@ -149,6 +152,46 @@ enum {
 uint32_t nsq_excitation(const int8_t *pulses, size_t pulses_len,
                         int32_t seed, int32_t signal_type, int32_t offset_type,
                         int32_t *excitation, size_t excitation_len);
+
+/* What nsq_wav_find answers, but for the last, and nsq_wav_samples: 0 or the last. Each of 1 to 7 is a condition on the whole file, and the
+ * lowest number that applies is given; it is not the first fault on the way through the file. The walked chunks are explained below. */
+enum {
+    NSQ_WAV_FOUND = 0,
+    NSQ_WAV_TOO_LONG = 1,     /* more than NSQ_WAV_BYTES bytes */
+    NSQ_WAV_NOT_WAVE = 2,     /* bytes 0 to 3 are not RIFF, or bytes 8 to 11 are not WAVE, or there are less than 12 */
+    NSQ_WAV_PAST_END = 3,     /* a walked chunk, `data` too, or its head runs past the end of the file */
+    NSQ_WAV_NO_FORMAT = 4,    /* no walked chunk is `fmt `, or the first that is has less than 16 bytes */
+    NSQ_WAV_OTHER_FORMAT = 5, /* the first `fmt ` has another coding than 1 (PCM), another channel count than 1, another width than 16 bits, or a
+                                 rate that is not 8000, 12000 or 16000 samples a second */
+    NSQ_WAV_NO_DATA = 6,      /* no walked chunk is `data` */
+    NSQ_WAV_ODD_DATA = 7,     /* the first `data` has an odd length */
+    NSQ_WAV_BAD_ROW = 8       /* nsq_wav_samples: part_len is not twice row_len */
+};
+
+/* The longest file that is not refused with 1, and the most samples that an accepted one has: (65536 - 44) / 2, since RIFF and WAVE, a `fmt ` and
+ * the head of `data` take 44 bytes at least (theorem wav_file:found-most). A row of so many samples is long enough for every file. */
+enum {
+    NSQ_WAV_BYTES = 65536,
+    NSQ_WAV_SAMPLES = 32746
+};
+
+/* Finds the samples of a WAV file that is in memory as a whole: they stand, two bytes each, in the bytes file[*start] to
+ * file[*start + *length - 1], and *rate of them make a second. It copies nothing. Returns one of the numbers above. The three numbers are always
+ * written: after a refusal all three are 0. Always *start + *length <= file_len; where the file is accepted, *length is even, and it may be 0.
+ *
+ * A chunk is a head of 8 bytes (its name, four bytes, and the length of its content, four bytes, low byte first), then the content, then a pad
+ * byte where that length is odd; at the very end of the file the pad byte may be missing. The walked chunks are those from byte 12 on, one after
+ * the other, up to the first `data`, which is one of them, or to the end of the file. Names are compared exactly.
+ *
+ * Not looked at: the size that follows RIFF, pad bytes, the contents of chunks with other names and of a second `fmt `, the bytes a second and
+ * the bytes a frame in `fmt ` and what follows its first 16 bytes, the samples, and all that is behind the first `data`. */
+uint32_t nsq_wav_find(const uint8_t *file, size_t file_len, uint32_t *start, uint32_t *length, uint32_t *rate);
+
+/* Makes samples of such a part, two bytes each, low byte first: after nsq_wav_find,
+ *   nsq_wav_samples(file + start, length, row, length / 2)
+ * Returns 0; or 8, with the row as it was, where part_len is not twice row_len. Nothing else is asked: any bytes, also more than NSQ_WAV_BYTES,
+ * and none for a row of length 0. */
+uint32_t nsq_wav_samples(const uint8_t *part, size_t part_len, int16_t *row, size_t row_len);
 
 #ifdef __cplusplus
 }

@@ -1,14 +1,16 @@
 #!/usr/bin/env python3
-"""docs/RULES.md as a program, read from that text alone: the quantiser, the excitation at the far end, `sheet`, `hear`
-and `clean`; only whoever added `clean` knew the reference that its stored sheets come from.
+"""docs/RULES.md as a program, read from that text alone: the quantiser, the excitation at the far end, `sheet`,
+`hear`, `clean` and `wav`; only whoever added `clean` knew the reference that its stored sheets come from.
 
     rules.py sheet  < SHEET   prints what `sheet` prints
     rules.py clean  < SHEET   prints what `clean` prints
     rules.py hear   < SHEET   prints what `hear` prints
+    rules.py wav    < FILE    prints what `wav` prints
     rules.py stream < CALLS   runs a stream of calls (its form stands at "The stream", below)
 
 Each part follows one heading of docs/RULES.md and names it. Plain and slow on purpose: it is meant to be read beside
-the rules. Left out, since none of these programs prints them: the calls from C, and the report (always 0).
+the rules. Left out, since none of these programs prints them: the calls from C, and the report (always 0). The two
+steps of a WAV file, `find` and `samples`, can be called alone: `wav` never gives the second one a row that it refuses.
 """
 
 import re
@@ -937,6 +939,120 @@ def hear_lines(data):
 
 
 # ---------------------------------------------------------------------------------------------------------------
+# Notes from WAV files
+# ---------------------------------------------------------------------------------------------------------------
+
+
+def low_byte_first(piece):
+    """A number in a file, of as many bytes as the piece has."""
+    return sum(byte * 256**k for k, byte in enumerate(piece))
+
+
+class Chunk:
+    """Chunks: the one that begins at this place. Its pad byte lies behind its end.
+
+    Where fewer than 8 bytes are left for the head, the content begins behind the end of the file: the chunk runs
+    past, whatever its length is taken to be.
+    """
+
+    def __init__(self, data, place):
+        self.name = data[place:place + 4]
+        self.length = low_byte_first(data[place + 4:place + 8])
+        self.content = place + 8
+        self.end = self.content + self.length
+        self.runs_past = self.end > len(data)
+
+
+def walked_chunks(data):
+    """The walk. A pad byte that is missing at the end of the file leaves `place` behind it: no fault."""
+    chunks = []
+    place = 12
+    while place < len(data):
+        chunk = Chunk(data, place)
+        chunks.append(chunk)
+        if chunk.runs_past or chunk.name == b"data":
+            break
+        place = chunk.end + chunk.length % 2
+    return chunks
+
+
+def first_named(chunks, name):
+    """The first walked chunk of this name, or None."""
+    return next((chunk for chunk in chunks if chunk.name == name), None)
+
+
+class Fields:
+    """The fields of a `fmt ` whose length is 16 or more."""
+
+    def __init__(self, data, chunk):
+        content = data[chunk.content:chunk.end]
+        self.coding = low_byte_first(content[0:2])
+        self.channels = low_byte_first(content[2:4])
+        self.rate = low_byte_first(content[4:8])
+        self.width = low_byte_first(content[14:16])
+
+
+def fields_refused(fields):
+    good = (
+        fields.coding == 1
+        and fields.channels == 1
+        and fields.rate in (8000, 12000, 16000)
+        and fields.width == 16
+    )
+    return not good
+
+
+def wav_answer(data):
+    """Which number comes back: the lowest that applies, as in `answer_of`. A call sheet may have as many bytes."""
+    if len(data) > MOST_BYTES:
+        return 1
+    if data[0:4] != b"RIFF" or data[8:12] != b"WAVE":
+        return 2
+    chunks = walked_chunks(data)
+    if any(chunk.runs_past for chunk in chunks):
+        return 3
+    form = first_named(chunks, b"fmt ")
+    if form is None or form.length < 16:
+        return 4
+    if fields_refused(Fields(data, form)):
+        return 5
+    sound = first_named(chunks, b"data")
+    if sound is None:
+        return 6
+    if sound.length % 2 != 0:
+        return 7
+    return 0
+
+
+def find(data):
+    """What comes back: the number, the place of the part and its length in bytes, and the samples a second."""
+    answer = wav_answer(data)
+    if answer != 0:
+        return answer, 0, 0, 0
+    chunks = walked_chunks(data)
+    form = first_named(chunks, b"fmt ")
+    sound = first_named(chunks, b"data")
+    return 0, sound.content, sound.length, Fields(data, form).rate
+
+
+def samples(part, row):
+    """The second step: the answer, and the row that is then there."""
+    if len(part) != 2 * len(row):
+        return 8, row
+    return 0, [low(low_byte_first(part[2 * i:2 * i + 2])) for i in range(len(row))]
+
+
+def wav_lines(data):
+    """What `wav` prints for these bytes."""
+    answer, place, length, rate = find(data)
+    if answer != 0:
+        return [f"wav {answer}"]
+    part = data[place:place + length]
+    _, row = samples(part, [0] * (length // 2))  # a row that fits: never 8
+    return [f"rate {rate}", f"samples {len(row)}"] + number_lines(row)
+
+
+# ---------------------------------------------------------------------------------------------------------------
 # The stream: not of RULES.md, but of the programs that compare
 #
 # Tokens between white space. `call NAME`, the ten sections of a sheet (a count and its numbers; any count), then
@@ -1045,10 +1161,11 @@ def main():
         "sheet": lambda data: ended(sheet_lines(data)),
         "clean": clean_pieces,
         "hear": lambda data: ended(hear_lines(data)),
+        "wav": lambda data: ended(wav_lines(data)),
         "stream": lambda data: ended(stream_lines(data)),
     }
     if len(sys.argv) != 2 or sys.argv[1] not in programs:
-        sys.exit("usage: rules.py sheet | clean | hear | stream < INPUT")
+        sys.exit("usage: rules.py sheet | clean | hear | wav | stream < INPUT")
     for piece in programs[sys.argv[1]](sys.stdin.buffer.read()):
         sys.stdout.write(piece)
     sys.stdout.flush()

@@ -1,4 +1,4 @@
-//! The four functions of the library. Each row is lent as its pointer and its length, from a slice that holds it, and rows that are
+//! The functions of the library. Each row is lent as its pointer and its length, from a slice that holds it, and rows and numbers that are
 //! written are lent by `&mut`, so they overlap nothing: that is all that include/nsq.h asks of a caller, but for the stack.
 use crate::Rows;
 
@@ -23,6 +23,8 @@ extern "C" {
     fn nsq_excitation(
         pulses: *const i8, pulses_len: usize, seed: i32, signal_type: i32, offset_type: i32, excitation: *mut i32, excitation_len: usize,
     ) -> u32;
+    fn nsq_wav_find(file: *const u8, file_len: usize, start: *mut u32, length: *mut u32, rate: *mut u32) -> u32;
+    fn nsq_wav_samples(part: *const u8, part_len: usize, row: *mut i16, row_len: usize) -> u32;
 }
 
 /// Calls an entry with the thirteen rows that both are lent, and with what comes after them.
@@ -56,11 +58,19 @@ pub fn excitation(pulses: &[i8], seed: i32, signal_type: i32, offset_type: i32, 
     unsafe { nsq_excitation(pulses.as_ptr(), pulses.len(), seed, signal_type, offset_type, row.as_mut_ptr(), row.len()) }
 }
 
-/// What the wrapper never does: it lends a report of one word, and 12 settings.
+pub fn wav_find(file: &[u8], start: &mut u32, length: &mut u32, rate: &mut u32) -> u32 {
+    unsafe { nsq_wav_find(file.as_ptr(), file.len(), start, length, rate) }
+}
+
+pub fn wav_samples(part: &[u8], row: &mut [i16]) -> u32 {
+    unsafe { nsq_wav_samples(part.as_ptr(), part.len(), row.as_mut_ptr(), row.len()) }
+}
+
+/// What the wrapper never does: it lends a report of one word, and 12 settings. And what it never shows: the three numbers of a refused file.
 #[cfg(test)]
 mod tests {
     use super::*;
-    use crate::places;
+    use crate::{places, wav};
 
     /// every row of a call that can be written
     #[derive(Clone, Debug, PartialEq)]
@@ -100,6 +110,16 @@ mod tests {
             let before = self.clone();
             assert_eq!(self.call(), number);
             assert_eq!(self, before);
+        }
+    }
+
+    #[test]
+    fn three_zeros_are_written_for_a_file_that_is_refused() {
+        let long = vec![0; wav::BYTES + 1];
+        for (file, number) in [(&[][..], 2), (&long, 1)] {
+            let (mut start, mut length, mut rate) = (77, 78, 79);
+            assert_eq!(wav_find(file, &mut start, &mut length, &mut rate), number);
+            assert_eq!((start, length, rate), (0, 0, 0));
         }
     }
 

@@ -3,8 +3,8 @@
 //! A [`State`] holds what one frame leaves for the next; [`State::code`] codes a frame by [`Settings`] and [`Rows`] and writes its
 //! pulses. The lengths of the rows are tested here, before the call, and again by the library: a wrong one is [`Refusal::Row`]. A refused
 //! call leaves the state and the pulses as they were. [`State::code_reported`] codes a frame likewise and counts where the pulses handed out
-//! differ from the winner's own, which is nowhere. [`excitation`] is what the far end makes of a frame's pulses. A call needs 48 KB of stack at
-//! most (`NSQ_STACK` in `include/nsq.h`, which says how that was measured).
+//! differ from the winner's own, which is nowhere. [`excitation`] is what the far end makes of a frame's pulses. [`wav`] reads the samples of a
+//! note from a WAV file. A call needs 48 KB of stack at most (`NSQ_STACK` in `include/nsq.h`, which says how that was measured).
 //!
 //! A frame of a tone, coded with two paths, and a call that is refused:
 //!
@@ -55,6 +55,7 @@
 
 mod ffi;
 pub mod places;
+pub mod wav;
 
 use std::error::Error;
 use std::fmt;

@@ -1,5 +1,6 @@
 //! The wrapper: every refusal, wrong lengths of every row, what a call does to state and pulses, and that names, numbers and words are those
-//! of include/nsq.h and of the example in C.
+//! of include/nsq.h and of the examples in C. tests/wav.rs has what it does with WAV files.
+use nsq::wav::{self, WavRefusal};
 use nsq::{excitation, places, HeardRefusal, Refusal, Reported, Rows, Settings, State, SAMPLES, WORDS};
 use std::error::Error;
 use std::ops::Range;
@@ -7,6 +8,16 @@ use std::ops::Range;
 const HEADER: &str = include_str!("../../../include/nsq.h");
 const REFUSALS: [Refusal; 7] = [Refusal::Length, Refusal::Order, Refusal::Paths, Refusal::Kind, Refusal::Row, Refusal::Gain, Refusal::Lag];
 const HEARD_REFUSALS: [HeardRefusal; 3] = [HeardRefusal::Seed, HeardRefusal::Kind, HeardRefusal::Row];
+const WAV_REFUSALS: [WavRefusal; 8] = [
+    WavRefusal::TooLong,
+    WavRefusal::NotWave,
+    WavRefusal::PastEnd,
+    WavRefusal::NoFormat,
+    WavRefusal::OtherFormat,
+    WavRefusal::NoData,
+    WavRefusal::OddData,
+    WavRefusal::Row,
+];
 
 /// the names without NSQ_ and the numbers of one of the header's enums, in their order: of the one that begins with this name
 fn header_enum(first: &str) -> Vec<(&'static str, usize)> {
@@ -131,6 +142,10 @@ fn numbers_are_those_of_the_header() {
     assert_eq!(header_enum("ACCEPTED"), [("ACCEPTED", 0)].into_iter().chain(ours).collect::<Vec<_>>());
     let ours = ["HEARD_BAD_SEED", "HEARD_BAD_KIND", "HEARD_BAD_ROW"].into_iter().zip(HEARD_REFUSALS.map(|why| why as usize));
     assert_eq!(header_enum("HEARD"), [("HEARD", 0)].into_iter().chain(ours).collect::<Vec<_>>());
+    let names = ["TOO_LONG", "NOT_WAVE", "PAST_END", "NO_FORMAT", "OTHER_FORMAT", "NO_DATA", "ODD_DATA", "BAD_ROW"].map(|name| format!("WAV_{name}"));
+    let ours = names.iter().map(String::as_str).zip(WAV_REFUSALS.map(|why| why as usize));
+    assert_eq!(header_enum("WAV_FOUND"), [("WAV_FOUND", 0)].into_iter().chain(ours).collect::<Vec<_>>());
+    assert_eq!(header_enum("WAV_BYTES"), [("WAV_BYTES", wav::BYTES), ("WAV_SAMPLES", wav::SAMPLES)]);
     assert!(HEADER.contains(concat!("\n#define NSQ_VERSION \"", env!("CARGO_PKG_VERSION"), "\"\n")));
 }
 
@@ -156,6 +171,21 @@ fn refusals_say_their_number_in_words() {
         "refused: 3, the two rows differ in length or are too long",
     ];
     assert_eq!(HEARD_REFUSALS.map(|why| why.to_string()), words);
+    let words = [
+        "the file is too long",
+        "the file is not a WAV file",
+        "a chunk runs past the end of the file",
+        "there is no format, or it is too short",
+        "the coding, channel count, width or rate is not allowed",
+        "there is no data",
+        "the data has an odd length",
+        "the part is not twice as long as the row",
+    ];
+    let in_c = include_str!("../../../examples/c/note.c");
+    for (k, (why, words)) in WAV_REFUSALS.into_iter().zip(words).enumerate() {
+        assert_eq!(why.to_string(), format!("refused: {}, {words}", k + 1));
+        assert!(in_c.contains(&format!("return \"{words}\";")), "examples/c/note.c has no words for {why:?}");
+    }
 }
 
 #[test]

@@ -1,7 +1,7 @@
 -- How long a text can be: at most 2249 bytes, so that a page of 4096 holds the whole of it. Assumes nothing.
 use mathlib.Core.Path.{_≡_, refl, _∙_, subst}
 use mathlib.Core.Bool.{Bool, true, false}
-use mathlib.Core.List.{List, [], _∷_, _++_}
+use mathlib.Core.List.{List, [], _∷_}
 use Prim.Native.Nat.{ℕ, zero, suc, _+_, _≤_, _<_}
 use native.Mathlib.Omega.{arith}
 use lib.ListN.{length, getD, take, length-append}
@@ -23,7 +23,7 @@ use Rattle.sheet_form.specs.Sheets.{startRest, endOf}
 use Rattle.sheet_form.proofs.Fitting.{bytes-section-fits}
 use Rattle.sheet_form.proofs.Faults.{FaultMost, found-most}
 use Rattle.sheet_text.specs.Text.{lineOf, answerWord, pulseLines}
-use Rattle.sheet_text.proofs.Short.{Small, AllSmall, line-one, lines-short, fault-short}
+use Rattle.sheet_text.proofs.Short.{Small, AllSmall, all-more, line-one, lines-short, fault-short}
 use Rattle.excitation.specs.declared.answer.Answer.{Answer}
 use Rattle.excitation.specs.declared.answer.Answer.the-variants.{Accepted, Seeds, Kinds, Rows}
 use Rattle.excitation.specs.Code.{codeOf}
@@ -35,10 +35,6 @@ use Rattle.hear_text.proofs.Parts.{by-sections, two}
 use Rattle.hear_text.proofs.hear.hear.Reads as hear
 
 -- ---- the values
-all-more : (zs : List ℤ) (z : ℤ) → AllSmall zs → Small z → AllSmall (zs ++ (z ∷ []))
-all-more [] z h k = (k, tt)
-all-more (y ∷ zs) z h k = (h .0, all-more zs z (h .1) k)
-
 -- an offset of the table, or 0 past it
 pair-most : (a b : ℕ) (j : ℕ) → a ≤ 60 → b ≤ 60 → (P (getD (pos a ∷ pos b ∷ []) j (pos 0)) ≤ 60) × (N (getD (pos a ∷ pos b ∷ []) j (pos 0)) ≤ 0)
 pair-most a b zero h k = omega arith

@@ -37,6 +37,11 @@ pub line-short : (w : List ℕ) (z : ℤ) → Small z → length (lineOf w z) �
 unfolding lineOf
 line-short w z h = rw (length-append (w ++ decimal z) _, length-append w _) (omega (arith, decimal-short z h))
 
+-- of a number without a sign
+pub line-count : (w : List ℕ) (n : ℕ) → n < 100000 → length (lineOf w (pos n)) ≤ length w + 6
+unfolding lineOf decimal
+line-count w n h = rw (length-append (w ++ digits n) _, length-append w (digits n)) (omega (arith, digits-short 4 n h))
+
 -- of one digit
 pub line-one : (w : List ℕ) (k : ℕ) → k < 10 → length (lineOf w (pos k)) ≡ length w + 2
 unfolding lineOf decimal
@@ -45,6 +50,11 @@ line-one w k h = rw (length-append (w ++ digits k) _, length-append w (digits k)
 abbrev pub AllSmall : List ℤ → Type 0
 AllSmall [] = Unit {0}
 AllSmall (z ∷ zs) = Small z × AllSmall zs
+
+-- one more
+pub all-more : (zs : List ℤ) (z : ℤ) → AllSmall zs → Small z → AllSmall (zs ++ (z ∷ []))
+all-more [] z h k = (k, tt)
+all-more (y ∷ zs) z h k = (h .0, all-more zs z (h .1) k)
 
 pub lines-short : (n i : ℕ) (zs : List ℤ) → AllSmall zs → length (pulseLines n i zs) ≤ 7 * length zs
 unfolding pulseLines

@@ -28,7 +28,7 @@ lineOf w z = w ++ decimal z ++ (10 ∷ [])
 unfoldable pub afterPulse : ℕ → ℕ → ℕ
 afterPulse n i = either (eqb (i % 20) 19) 10 (either (eqb (i + 1) n) 10 32)
 
--- the pulses from pulse i of n on, twenty to a line with one space between
+-- the pulses from pulse i of n on, twenty to a line with one space between; rows of other numbers, as samples, are printed in such lines too
 unfoldable pub pulseLines : ℕ → ℕ → List ℤ → List ℕ
 pulseLines n i [] = []
 pulseLines n i (z ∷ zs) = decimal z ++ (afterPulse n i ∷ pulseLines n (suc i) zs)

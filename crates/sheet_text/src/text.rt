@@ -1,5 +1,5 @@
 // The text of an answer and of a sheet's fault. Each is printed from the start of the lent buffer on, and the count of its
-// bytes is handed back.
+// bytes is handed back. A line with a number, and lines of values or samples, are printed after what the buffer holds.
 ghost use mathlib.Core.Path.{_≡_};
 ghost use Prim.Native.Nat.{_<_};
 ghost use lib.IntN.{pos};
@@ -60,6 +60,19 @@ pub fn value_lines(out: &mut [u8], used: usize, values: &[i32]) -> usize
     let mut m = used;
     for i in 0..n {
         let k = page::decimal(out, m, values[i]);
+        m = page::put(out, k, after_pulse(n, i));
+    }
+    m
+}
+
+// Samples, in such lines.
+pub fn sample_lines(out: &mut [u8], used: usize, samples: &[i16]) -> usize
+    ensures { λ r. ⌜ page r (now (out .exit)) ≡ puts (pulseLines (length (now (samples .entry))) 0 (now (samples .entry))) (page used (now (out .entry))) ⌝ }
+{
+    let n = samples.len();
+    let mut m = used;
+    for i in 0..n {
+        let k = page::decimal(out, m, samples[i] as i32);
         m = page::put(out, k, after_pulse(n, i));
     }
     m

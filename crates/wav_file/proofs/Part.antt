@@ -207,6 +207,10 @@ module _ (f : List ℕ) (ok : answerOf f ≡ 0) where
       turn (up h l) = omega (arith, after-is f (formatAt f), d .size)
       turn (down h l) = absurd (clash (isLast f (dataAt f)) (data-last f (b .0)) l)
 
+  -- the part begins behind RIFF's 12 bytes, the `fmt ` and the head of the `data`
+  pub found-earliest : 44 ≤ (found f) .start
+  found-earliest = omega (arith, accepted-start, format-before, places f (formatAt f) (format-is f no4 .within))
+
 -- the part of any file lies in it: a refused one's is empty
 pub found-inside : (f : List ℕ) → (found f) .start + (found f) .length ≤ length f
 unfolding found
@@ -229,13 +233,11 @@ found-small f = turn (answerOf f) refl
     turn zero q = let i = part-is-data f q .inside in omega (arith, short-file f q)
     turn (suc a) q = rw (q, eqb·suc-zero a) (omega arith)
 
--- no part is longer than 65,492 bytes, which are 32,746 samples: before it are RIFF's 12 bytes, a `fmt ` and the head of the `data`
+-- so no part is longer than 65,492 bytes, which are 32,746 samples
 pub found-most : (f : List ℕ) → (found f) .length ≤ 65492
 unfolding found
 found-most f = turn (answerOf f) refl
   where
     turn : (a : ℕ) → answerOf f ≡ a → (either (eqb (answerOf f) 0) (accepted f) (refused (answerOf f))) .length ≤ 65492
-    turn zero q =
-        let w = part-is-data f q in
-        omega (arith, w .inside, accepted-start f q, format-before f q, places f (formatAt f) (format-is f (no4 f q) .within), short-file f q)
+    turn zero q = omega (arith, part-is-data f q .inside, found-earliest f q, short-file f q)
     turn (suc a) q = rw (q, eqb·suc-zero a) (omega arith)

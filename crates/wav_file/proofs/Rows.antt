@@ -10,7 +10,7 @@ use lib.IntN.{ℤ, pos}
 use borrow.Author.Tests.{eq-eqb, ne-eqb}
 use Rattle.wav_file.specs.Fill.{sampleOf, samplesOf, filled, filling, notTwice}
 
-length-samples : (b : List ℕ) (n : ℕ) → length (samplesOf b n) ≡ n
+pub length-samples : (b : List ℕ) (n : ℕ) → length (samplesOf b n) ≡ n
 length-samples b zero = refl
 length-samples b (suc n) = length-append (samplesOf b n) (sampleOf b n ∷ []) ∙ omega (arith, length-samples b n)
 

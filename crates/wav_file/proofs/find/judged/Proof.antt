@@ -126,7 +126,7 @@ returns-6 c =
     (give7 (now (s .args .file)) (s .args .m) (s .pre .0) (s .pre .1 .0) (s .pre .1 .1) (e1 .if1 .left) (e2 .if2 .left) (rw (z .size-at .ensures .0) at (e3 .if3 .left))
     (sym (o .other-sound .ensures) ∙ e4 .if4 .left)
     (e5 .if5 .left)
-    (rw (y .size-at2 .ensures .0) at (t .if6 .taken)))
+    (omega (arith, y .size-at2 .ensures .0, t .if6 .taken)))
 
 add-word32 : tie.Need-add-word32
 add-word32 c =
@@ -182,7 +182,7 @@ returns-7 c =
     (give0 (now (s .args .file)) (s .args .m) (s .pre .0) (s .pre .1 .0) (s .pre .1 .1) (e1 .if1 .left) (e2 .if2 .left) (rw (z .size-at .ensures .0) at (e3 .if3 .left))
     (sym (o .other-sound .ensures) ∙ e4 .if4 .left)
     (e5 .if5 .left)
-    (rw (y .size-at2 .ensures .0) at (e6 .if6 .left))))
+    (λ k. e6 .if6 .left (omega (arith, y .size-at2 .ensures .0)))))
 
 pub judged-spec : {M : Type 1} → statement M
 judged-spec =

@@ -1,0 +1,6 @@
+-- Texts: the parts of the text, put together. Room: how long it can be. Unique: one outcome. Examples: small
+-- texts, computed.
+pub mod Texts
+pub mod Room
+pub mod Unique
+pub mod Examples
