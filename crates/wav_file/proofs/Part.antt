@@ -12,7 +12,7 @@ use borrow.Author.Tests.{ltb-false, leb-true, eqb-true, eqb-false, not-false}
 use Rattle.fixed.specs.Iter.{either}
 use Rattle.wav_file.specs.Bytes.{word16, word32}
 use Rattle.wav_file.specs.Riff.{sizeAt, isFormat, isData, whole, isLast, chunks, first}
-use Rattle.wav_file.specs.Find.{pastAt, formatAt, dataAt, rateAllowed, otherSound, runsPast, noFormat, otherFormat, noData, oddData, tooLong, table, answerOf, accepted, refused, found, part}
+use Rattle.wav_file.specs.Find.{pastAt, formatAt, dataAt, rateAllowed, otherSound, runsPast, noFormat, otherFormat, noData, oddData, tooLong, table, answerOf, accepted, refused, found, part, partOf}
 use Rattle.wav_file.specs.Walked.{In}
 use Rattle.wav_file.specs.Shown.{IsData, IsFormat}
 use Rattle.wav_file.proofs.Apart.{Apart, one, up, down, apart, after-is, data-last, two-names}
@@ -219,6 +219,11 @@ found-inside f = turn (answerOf f) refl
     turn : (a : ℕ) → answerOf f ≡ a → (either (eqb (answerOf f) 0) (accepted f) (refused (answerOf f))) .start + (either (eqb (answerOf f) 0) (accepted f) (refused (answerOf f))) .length ≤ length f
     turn zero q = part-is-data f q .inside
     turn (suc a) q = rw (q, eqb·suc-zero a) (omega arith)
+
+-- and is as long as is said
+pub part-length : (f : List ℕ) → length (partOf f) ≡ (found f) .length
+unfolding part
+part-length f = simp (length-take, length-drop) (omega (arith, found-inside f))
 
 pub short-file : (f : List ℕ) → answerOf f ≡ 0 → length f ≤ 65536
 unfolding table tooLong

@@ -1,7 +1,7 @@
--- `wav_replay::replay::next` meets its contract. Assumes nothing.
+-- `wav_replay::next` meets its contract. Assumes nothing.
 use borrow.Author.Needs.{needs}
-use Rattle.wav_replay.proofs.replay.next.Statement.{statement}
-use Rattle.wav_replay.proofs.replay.next.Tie as tie
+use Rattle.wav_replay.proofs.next.Statement.{statement}
+use Rattle.wav_replay.proofs.next.Tie as tie
 
 kind-requires : tie.Need-kind-requires
 kind-requires c κs = search needs

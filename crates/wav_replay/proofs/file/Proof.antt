@@ -1,9 +1,9 @@
--- `wav_replay::replay::file` meets its contract: what it writes is within the page. Assumes nothing.
+-- `wav_replay::file` meets its contract: what it writes is within the page. Assumes nothing.
 use mathlib.Core.Path.{sym}
 use lib.Seq.{length-take-le}
 use borrow.Author.Needs.{needs}
-use Rattle.wav_replay.proofs.replay.file.Statement.{statement}
-use Rattle.wav_replay.proofs.replay.file.Tie as tie
+use Rattle.wav_replay.proofs.file.Statement.{statement}
+use Rattle.wav_replay.proofs.file.Tie as tie
 
 number-requires : tie.Need-number-requires
 number-requires c κs = search needs

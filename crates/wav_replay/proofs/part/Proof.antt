@@ -1,7 +1,7 @@
--- `wav_replay::replay::part` meets its contract: the buffers have room for what is read. Assumes nothing.
+-- `wav_replay::part` meets its contract: the buffers have room for what is read. Assumes nothing.
 use borrow.Author.Needs.{needs}
-use Rattle.wav_replay.proofs.replay.part.Statement.{statement}
-use Rattle.wav_replay.proofs.replay.part.Tie as tie
+use Rattle.wav_replay.proofs.part.Statement.{statement}
+use Rattle.wav_replay.proofs.part.Tie as tie
 
 number-requires : tie.Need-number-requires
 number-requires c κs = search needs

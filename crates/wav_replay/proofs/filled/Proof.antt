@@ -1,8 +1,8 @@
--- `wav_replay::replay::filled` meets its contract: what it writes is within the page. Assumes nothing.
+-- `wav_replay::filled` meets its contract: what it writes is within the page. Assumes nothing.
 use borrow.Author.Needs.{needs}
 use Rattle.pages.proofs.Pages.{puts-used}
-use Rattle.wav_replay.proofs.replay.filled.Statement.{statement}
-use Rattle.wav_replay.proofs.replay.filled.Tie as tie
+use Rattle.wav_replay.proofs.filled.Statement.{statement}
+use Rattle.wav_replay.proofs.filled.Tie as tie
 
 returns : tie.Need-returns
 returns c = search needs

@@ -1,41 +1,45 @@
--- `wav_replay::replay::found` meets its contract: the part ends at 65,536 at the latest, so its place and its length fit. Assumes nothing.
-use Prim.Native.Nat.{ℕ, _+_, _≤_}
+-- `wav_replay::found` meets its contract: the part ends at 65,536 at the latest, so its place and its length fit. Assumes nothing.
+use Prim.Native.Nat.{ℕ, _≤_}
+use native.Mathlib.Omega.{arith}
 use mathlib.Core.Path.{_≡_}
 use mathlib.Core.List.{List}
-use native.Mathlib.Omega.{arith}
+use lib.ListN.{length}
 use borrow.Author.Needs.{needs}
-use Rattle.wav_file.specs.Find.{found}
+use Rattle.wav_file.specs.Find.{found, partOf}
 use Rattle.wav_file.specs.declared.find.Found.{Found}
-use Rattle.wav_file.proofs.Part.{found-small}
-use Rattle.wav_replay.proofs.replay.found.Statement.{statement}
-use Rattle.wav_replay.proofs.replay.found.Tie as tie
+use Rattle.wav_file.proofs.Part.{found-small, part-length}
+use Rattle.wav_replay.proofs.found.Statement.{statement}
+use Rattle.wav_replay.proofs.found.Tie as tie
 
--- what is found ends at 65,536 at the latest
-small : (r : Found) (file : List ℕ) → r ≡ found file → r .start + r .length ≤ 65536
-small r file e = rw e (found-small file)
+small-start : (r : Found) (file : List ℕ) → r ≡ found file → r .start ≤ 65536
+small-start r file e = rw e (omega (arith, found-small file))
+
+small-part : (part file : List ℕ) → part ≡ partOf file → length part ≤ 65536
+small-part part file e = rw e (omega (arith, found-small file, part-length file))
 
 returns : tie.Need-returns
 returns c = search needs
 
-sub-find : tie.Need-sub-find
-sub-find c = search needs
+sub-file : tie.Need-sub-file
+sub-file c = search needs
 
-part-find-start : tie.Need-part-find-start
-part-find-start c = search needs
+part-file-start : tie.Need-part-file-start
+part-file-start c = search needs
 
-part-find-end : tie.Need-part-find-end
-part-find-end c = search needs
+part-file-end : tie.Need-part-file-end
+part-file-end c = search needs
 
 find-requires : tie.Need-find-requires
 find-requires c κs = search needs
 
 cast-start : tie.Need-cast-start
-cast-start c =
-    omega (arith, small _ _ (c .before .find .ensures))
+cast-start c = omega (arith, small-start _ _ (c .before .find .ensures))
+
+part-requires : tie.Need-part-requires
+part-requires c κs = search needs
 
 cast-length : tie.Need-cast-length
-cast-length c =
-    omega (arith, small _ _ (c .before .before .find .ensures))
+cast-length c = omega (arith, small-part _ _ (c .part .ensures))
 
 slice-aggregate-say : tie.Need-slice-aggregate-say
 slice-aggregate-say c = search needs
@@ -69,11 +73,12 @@ found-spec =
     tie.close
     (tie.spec
     returns
-    sub-find
-    part-find-start
-    part-find-end
+    sub-file
+    part-file-start
+    part-file-end
     find-requires
     cast-start
+    part-requires
     cast-length
     slice-aggregate-say
     say-requires

@@ -1,10 +1,10 @@
--- `wav_replay::replay::other_words` meets its contract: the row keeps its length. Assumes nothing.
+-- `wav_replay::other_words` meets its contract: the row keeps its length. Assumes nothing.
 use mathlib.Core.Path.{_≡_}
 use Prim.Native.Nat.{_≤_, _-_}
 use lib.ListN.{length}
 use borrow.Author.Needs.{needs}
-use Rattle.wav_replay.proofs.replay.other_words.Statement.{statement}
-use Rattle.wav_replay.proofs.replay.other_words.Tie as tie
+use Rattle.wav_replay.proofs.other_words.Statement.{statement}
+use Rattle.wav_replay.proofs.other_words.Tie as tie
 
 abbrev Inv-loop : tie.InvT-loop
 Inv-loop row₀ i₀ i-end row i = (i ≤ i-end) × ((i-end ≡ length row₀) × (length row ≡ length row₀))

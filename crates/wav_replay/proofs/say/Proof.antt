@@ -1,8 +1,8 @@
--- `wav_replay::replay::say` meets its contract: what it writes is within the line. Assumes nothing.
+-- `wav_replay::say` meets its contract: what it writes is within the line. Assumes nothing.
 use borrow.Author.Needs.{needs}
 use Rattle.pages.proofs.Pages.{puts-used}
-use Rattle.wav_replay.proofs.replay.say.Statement.{statement}
-use Rattle.wav_replay.proofs.replay.say.Tie as tie
+use Rattle.wav_replay.proofs.say.Statement.{statement}
+use Rattle.wav_replay.proofs.say.Tie as tie
 
 slice-aggregate-number-line : tie.Need-slice-aggregate-number-line
 slice-aggregate-number-line c = search needs
