@@ -22,7 +22,7 @@ use Rattle.sheet_form.specs.Rows.{takeSection}
 use Rattle.sheet_form.specs.Sheets.{startRest, endOf}
 use Rattle.sheet_form.proofs.Fitting.{bytes-section-fits}
 use Rattle.sheet_form.proofs.Faults.{FaultMost, found-most}
-use Rattle.sheet_text.specs.Text.{lineOf, answerWord, pulseLines}
+use Rattle.sheet_text.specs.Text.{lineOf, answerWord}
 use Rattle.sheet_text.proofs.Short.{Small, AllSmall, all-more, line-one, lines-short, fault-short}
 use Rattle.excitation.specs.declared.answer.Answer.{Answer}
 use Rattle.excitation.specs.declared.answer.Answer.the-variants.{Accepted, Seeds, Kinds, Rows}

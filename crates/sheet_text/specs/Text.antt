@@ -1,10 +1,10 @@
 -- What is printed: docs/RULES.md, "The call sheet". The text of an answer, of a fault, and of a sheet, as bytes.
 -- Assumes nothing.
-use Prim.Native.Nat.{ℕ, zero, suc, _+_, _/_, _%_}
+use Prim.Native.Nat.{ℕ, suc, _+_, _%_}
 use mathlib.Core.List.{List, [], _∷_, _++_}
 use lib.ListN.{length}
-use lib.IntN.{ℤ, pos, negsuc}
-use lib.Dec.{ltb, eqb}
+use lib.IntN.{ℤ, pos}
+use lib.Dec.{eqb}
 use Rattle.fixed.specs.Iter.{either}
 use Rattle.pages.specs.Decimal.{decimal}
 

@@ -12,7 +12,7 @@ use lib.Seq.{length-take-le, getD-take}
 use borrow.Author.Tests.{le-leb, le-ltb}
 use Rattle.fixed.proofs.Parts.{drop-take}
 use Rattle.wav_file.specs.Bytes.{byte}
-use Rattle.wav_file.specs.Riff.{sizeAt, whole, after, isLast, chunksFrom, chunks}
+use Rattle.wav_file.specs.Riff.{sizeAt, whole, isLast, chunksFrom, chunks}
 use Rattle.wav_file.specs.Find.{formatAt, dataAt, tooLong, answerOf, found, part, partOf}
 use Rattle.wav_file.specs.Walked.{In, Looked, riff, wave, head, format}
 use Rattle.wav_file.proofs.Firsts.{clash}

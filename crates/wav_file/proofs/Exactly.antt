@@ -15,6 +15,7 @@ use Rattle.wav_file.specs.declared.find.Found.{Found}
 use Rattle.wav_file.specs.Fill.{Filled, filling}
 use Rattle.wav_file.proofs.Rows.{alike, unlike}
 use Rattle.wav_file.specs.Find.{applies, answerOf, accepted, refused, found}
+use Rattle.fixed.proofs.Iters.{either-all}
 use Rattle.fixed.proofs.Lowest.{exactly-lowest, exactly-none}
 
 either-number : (a : ℕ) (x y : Found) → x .answer ≡ 0 → y .answer ≡ a → (either (eqb a 0) x y) .answer ≡ a
@@ -32,6 +33,14 @@ module _ (file : List ℕ) where
       → (answerOf file ≡ k) ↔ ((applies file k ≡ true) × ((j : ℕ) → 1 ≤ j → j < k → applies file j ≡ false))
   unfolding answerOf
   exactly-refused k l u = exactly-lowest (applies file) 7 k l u
+
+  -- no number above 7 is given
+  pub answer-most : answerOf file ≤ 7
+  unfolding answerOf
+  answer-most = below 1 1 _ (omega arith) (below 2 2 _ (omega arith) (below 3 3 _ (omega arith) (below 4 4 _ (omega arith) (below 5 5 _ (omega arith) (below 6 6 _ (omega arith) (below 7 7 0 (omega arith) (omega arith)))))))
+    where
+      below : (j k m : ℕ) → k ≤ 7 → m ≤ 7 → either (applies file j) k m ≤ 7
+      below j k m h l = either-all (λ (n : ℕ). n ≤ 7) (applies file j) k m (λ e. h) (λ e. l)
 
   -- a file is accepted exactly when no number applies
   pub exactly-accepted : (answerOf file ≡ 0) ↔ ((j : ℕ) → 1 ≤ j → j ≤ 7 → applies file j ≡ false)

@@ -77,19 +77,21 @@ pub accepted-files :
 unfolding word16 word32 named sizeAt isFormat isData whole after isLast chunksFrom pastAt formatAt dataAt rateAllowed otherSound tooLong notWave runsPast noFormat otherFormat noData oddData table answerOf accepted found
 accepted-files = refl
 
--- 2: the empty file, eleven bytes, another beginning (`RIFX`), another form
+-- 2: the empty file, eleven bytes, another beginning (`RIFX`, `RF64`), another form
 pub not-wave :
     (row []
     ∷ row (82 ∷ 73 ∷ 70 ∷ 70 ∷ 0 ∷ 0 ∷ 0 ∷ 0 ∷ 87 ∷ 65 ∷ 86 ∷ [])
     ∷ row (82 ∷ 73 ∷ 70 ∷ 88 ∷ 0 ∷ 0 ∷ 0 ∷ 0 ∷ 87 ∷ 65 ∷ 86 ∷ 69 ∷ good 8000 (dat 0 []))
+    ∷ row (82 ∷ 70 ∷ 54 ∷ 52 ∷ 0 ∷ 0 ∷ 0 ∷ 0 ∷ 87 ∷ 65 ∷ 86 ∷ 69 ∷ good 8000 (dat 0 []))
     ∷ row (82 ∷ 73 ∷ 70 ∷ 70 ∷ 0 ∷ 0 ∷ 0 ∷ 0 ∷ 65 ∷ 86 ∷ 73 ∷ 32 ∷ good 8000 (dat 0 []))
     ∷ [])
-    ≡ (no 2 ∷ no 2 ∷ no 2 ∷ no 2 ∷ [])
+    ≡ (no 2 ∷ no 2 ∷ no 2 ∷ no 2 ∷ no 2 ∷ [])
 unfolding word16 word32 named sizeAt isFormat isData whole after isLast chunksFrom pastAt formatAt dataAt rateAllowed otherSound tooLong notWave runsPast noFormat otherFormat noData oddData table answerOf accepted found
 not-wave = refl
 
 -- 3: one byte and seven bytes where a head should be; a `data` that runs past the end, also without a `fmt `, also with an odd length, also with the
--- length 2^32 - 1; a length that would come round; after a short or a foreign `fmt `. A missing last pad byte is no fault: no `data` then, 6
+-- length 2^32 - 1; a length that would come round; after a short or a foreign `fmt `; a second `fmt ` that runs past the end; a chunk whose pad byte
+-- was forgotten, so that the walk goes on one byte late. A missing last pad byte is no fault: no `data` then, 6
 pub runs-past :
     (row (riff (good 8000 (0 ∷ [])))
     ∷ row (riff (good 8000 (0 ∷ 0 ∷ 0 ∷ 0 ∷ 0 ∷ 0 ∷ 0 ∷ [])))
@@ -100,13 +102,16 @@ pub runs-past :
     ∷ row (riff (good 8000 (other 4294967288 (dat 2 (5 ∷ 6 ∷ [])))))
     ∷ row (riff (short (other 1 [])))
     ∷ row (riff (stereo (dat 2 (5 ∷ []))))
+    ∷ row (riff (good 8000 (fmt 16 (put16 1 []))))
+    ∷ row (riff (other 1 (7 ∷ good 8000 (dat 2 (5 ∷ 6 ∷ [])))))
     ∷ row (riff (good 8000 (other 1 (7 ∷ []))))
     ∷ [])
-    ≡ (no 3 ∷ no 3 ∷ no 3 ∷ no 3 ∷ no 3 ∷ no 3 ∷ no 3 ∷ no 3 ∷ no 3 ∷ no 6 ∷ [])
+    ≡ (no 3 ∷ no 3 ∷ no 3 ∷ no 3 ∷ no 3 ∷ no 3 ∷ no 3 ∷ no 3 ∷ no 3 ∷ no 3 ∷ no 3 ∷ no 6 ∷ [])
 unfolding word16 word32 named sizeAt isFormat isData whole after isLast chunksFrom pastAt formatAt dataAt rateAllowed otherSound tooLong notWave runsPast noFormat otherFormat noData oddData table answerOf accepted found
 runs-past = refl
 
--- 4: no chunk at all; neither `fmt ` nor `data`; a short `fmt ` alone; `data` before `fmt `; a short `fmt ` before a good one; `FMT `
+-- 4: no chunk at all; neither `fmt ` nor `data`; a short `fmt ` alone; `data` before `fmt `; a short `fmt ` before a good one; `FMT `; `fmt` and a
+-- zero; a good `fmt ` inside another chunk
 pub no-format :
     (row (riff [])
     ∷ row (riff (other 0 []))
@@ -114,13 +119,15 @@ pub no-format :
     ∷ row (riff (dat 2 (5 ∷ 6 ∷ good 8000 [])))
     ∷ row (riff (short (good 8000 (dat 0 []))))
     ∷ row (riff (70 ∷ 77 ∷ 84 ∷ 32 ∷ put32 16 (sound 1 1 8000 16 (dat 0 []))))
+    ∷ row (riff (102 ∷ 109 ∷ 116 ∷ 0 ∷ put32 16 (sound 1 1 8000 16 (dat 0 []))))
+    ∷ row (riff (other 24 (good 8000 (dat 0 []))))
     ∷ [])
-    ≡ (no 4 ∷ no 4 ∷ no 4 ∷ no 4 ∷ no 4 ∷ no 4 ∷ [])
+    ≡ (no 4 ∷ no 4 ∷ no 4 ∷ no 4 ∷ no 4 ∷ no 4 ∷ no 4 ∷ no 4 ∷ [])
 unfolding word16 word32 named sizeAt isFormat isData whole after isLast chunksFrom pastAt formatAt dataAt rateAllowed otherSound tooLong notWave runsPast noFormat otherFormat noData oddData table answerOf accepted found
 no-format = refl
 
 -- 5: another coding, also the extensible one; two channels, also before a good `fmt `, without a `data`, with an odd one; other widths; other rates, also
--- one that would come round. Then a good `fmt ` without a `data`, 6, and with an odd one, 7
+-- one that would come round. Then a good `fmt ` without a `data`, 6, also with a `DATA`, and with an odd one, 7
 pub other-formats :
     (row (riff (fmt 16 (sound 3 1 8000 16 (dat 0 []))))
     ∷ row (riff (fmt 16 (sound 65534 1 8000 16 (dat 0 []))))
@@ -131,9 +138,10 @@ pub other-formats :
     ∷ row (riff (good 11025 (dat 0 [])))
     ∷ row (riff (good (8000 + 65536) (dat 0 [])))
     ∷ row (riff (good 8000 []))
+    ∷ row (riff (good 8000 (68 ∷ 65 ∷ 84 ∷ 65 ∷ put32 2 (5 ∷ 6 ∷ []))))
     ∷ row (riff (good 8000 (dat 1 (5 ∷ []))))
     ∷ [])
-    ≡ (no 5 ∷ no 5 ∷ no 5 ∷ no 5 ∷ no 5 ∷ no 5 ∷ no 5 ∷ no 5 ∷ no 6 ∷ no 7 ∷ [])
+    ≡ (no 5 ∷ no 5 ∷ no 5 ∷ no 5 ∷ no 5 ∷ no 5 ∷ no 5 ∷ no 5 ∷ no 6 ∷ no 6 ∷ no 7 ∷ [])
 unfolding word16 word32 named sizeAt isFormat isData whole after isLast chunksFrom pastAt formatAt dataAt rateAllowed otherSound tooLong notWave runsPast noFormat otherFormat noData oddData table answerOf accepted found
 other-formats = refl
 

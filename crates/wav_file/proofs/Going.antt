@@ -1,17 +1,16 @@
 -- A walk under way: what was met so far, and what is met from here on, is what the whole walk meets. Assumes nothing.
 use Prim.Native.Nat.{ℕ, zero, suc, _+_, _-_, _≤_, _<_}
 use native.Mathlib.Omega.{arith}
-use mathlib.Core.Path.{_≡_, refl, sym, _∙_}
+use mathlib.Core.Path.{_≡_, refl, _∙_}
 use mathlib.Core.Bool.{Bool, true, false, not, _||_}
 use mathlib.Core.List.{List}
 use lib.ListN.{length}
-use lib.Dec.{leb, eqb, eqb·suc-zero}
+use lib.Dec.{eqb, eqb·suc-zero}
 use borrow.Author.Tests.{leb-true, le-leb, lt-leb}
 use Rattle.fixed.specs.Iter.{either}
 use Rattle.wav_file.specs.Riff.{sizeAt, isFormat, isData, whole, after, isLast, chunksFrom, first}
 use Rattle.wav_file.specs.Find.{pastAt, formatAt, dataAt, runsPast}
 use Rattle.wav_file.specs.Marks.{marksOf, formatWith}
-use Rattle.wav_file.proofs.Firsts.{clash}
 use Rattle.wav_file.proofs.Walks.{after-more, chunks-end, chunks-more, is-not-last}
 use Rattle.wav_file.proofs.Apart.{two-names}
 

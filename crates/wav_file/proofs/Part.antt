@@ -4,7 +4,7 @@ use native.Mathlib.Omega.{arith}
 use native.Mathlib.Nat.{mod-lt}
 use mathlib.Core.Path.{_≡_, refl, _∙_, subst}
 use mathlib.Core.Logic.{⊎-elim}
-use mathlib.Core.Bool.{Bool, true, false, not, _&&_}
+use mathlib.Core.Bool.{Bool, true, false, not, _&&_, _||_}
 use mathlib.Core.List.{List}
 use lib.ListN.{length, length-take, length-drop}
 use lib.Dec.{ltb, eqb, eqb·suc-zero}
@@ -98,6 +98,16 @@ sound-is f at h =
     turn true true false d x y z w e = absurd (clash false e refl)
     turn true false c d x y z w e = absurd (clash false e refl)
     turn false b c d x y z w e = absurd (clash false e refl)
+
+-- no rate is above 16000
+pub rate-most : (n : ℕ) → rateAllowed n ≡ true → n ≤ 16000
+unfolding rateAllowed
+rate-most n h = turn (eqb n 8000) (eqb n 12000) refl refl h
+  where
+    turn : (a b : Bool) → eqb n 8000 ≡ a → eqb n 12000 ≡ b → a || (b || eqb n 16000) ≡ true → n ≤ 16000
+    turn true b x y e = omega (arith, eqb-true n 8000 x)
+    turn false true x y e = omega (arith, eqb-true n 12000 y)
+    turn false false x y e = omega (arith, eqb-true n 16000 e)
 
 even-of : (n : ℕ) → eqb (n % 2) 1 ≡ false → n % 2 ≡ 0
 even-of n h =

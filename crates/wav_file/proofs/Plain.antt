@@ -2,13 +2,12 @@
 use Prim.Native.Nat.{ℕ, zero, suc, _+_, _*_, _/_, _%_, _^_, _≤_, _<_}
 use native.Mathlib.Omega.{arith}
 use mathlib.Core.Path.{_≡_, refl, sym, ap, _∙_}
-use mathlib.Core.Bool.{Bool, true, false, _||_}
+use mathlib.Core.Bool.{true, false}
 use mathlib.Core.List.{List, [], _∷_}
 use lib.ListN.{length, take, getD}
 use lib.Seq.{take-suc, take-length, take-all}
 use lib.IntN.{ℤ, pos, negsuc}
-use lib.Dec.{eqb}
-use borrow.Author.Tests.{le-ltb, le-leb, eq-eqb, eqb-true}
+use borrow.Author.Tests.{le-ltb, le-leb}
 use mir.Syntax.{w16}
 use mir.Val.{SFits}
 use Rattle.fixed.specs.Wrap.{modZ, wrap16}
@@ -20,6 +19,7 @@ use Rattle.wav_file.specs.Find.{pastAt, formatAt, dataAt, rateAllowed, o
 use Rattle.wav_file.specs.Fill.{sampleOf, samplesOf, filled, filling}
 use Rattle.wav_file.specs.Plain.{put16, bytesOf, wavOf}
 use Rattle.wav_file.proofs.Walks.{chunks-more}
+use Rattle.wav_file.proofs.Part.{rate-most}
 use Rattle.wav_file.proofs.Rows.{alike}
 
 -- ---- numbers written and read
@@ -28,15 +28,6 @@ read16 n h = omega arith
 
 read32 : (n : ℕ) → n < 65536 → n % 256 + 256 * (n / 256 % 256) + 65536 * (n / 65536 % 256 + 256 * (n / 65536 / 256 % 256)) ≡ n
 read32 n h = omega arith
-
-small-rate : (n : ℕ) → rateAllowed n ≡ true → n < 65536
-unfolding rateAllowed
-small-rate n h = turn (eqb n 8000) (eqb n 12000) (eqb n 16000) refl refl refl h
-  where
-    turn : (a b c : Bool) → eqb n 8000 ≡ a → eqb n 12000 ≡ b → eqb n 16000 ≡ c → a || (b || c) ≡ true → n < 65536
-    turn true b c x y z h = omega (arith, eqb-true n 8000 x)
-    turn false true c x y z h = omega (arith, eqb-true n 12000 y)
-    turn false false c x y z h = omega (arith, eqb-true n 16000 (z ∙ h))
 
 length-bytes : (zs : List ℤ) → length (bytesOf zs) ≡ 2 * length zs
 length-bytes [] = refl
@@ -61,7 +52,7 @@ module _ (rate : ℕ) (zs : List ℤ) (good : rateAllowed rate ≡ true) (fits :
 
   rate12 : word32 f 24 ≡ rate
   unfolding wavOf word32 word16
-  rate12 = read32 rate (small-rate rate good)
+  rate12 = read32 rate (omega (arith, rate-most rate good))
 
   whole12 : whole f 12 ≡ true
   unfolding whole

@@ -1,22 +1,20 @@
 -- What is passed over is not looked at: two files of one length that differ only in RIFF's size, pad bytes, contents of other chunks than the first
 -- `fmt `, or bytes behind the first `data`'s head give the same answer, place, length and rate. Assumes nothing.
-use Prim.Native.Nat.{ℕ, _+_, _%_, _≤_, _<_}
+use Prim.Native.Nat.{ℕ, _+_, _≤_, _<_}
 use native.Mathlib.Omega.{arith}
-use mathlib.Core.Path.{_≡_, refl, sym, _∙_, subst}
+use mathlib.Core.Path.{_≡_, sym, subst}
 use mathlib.Core.Logic.{_⊎_, ⊎-elim}
-use mathlib.Core.Bool.{Bool, true, false, not, _&&_, _||_}
+use mathlib.Core.Bool.{true, false}
 use mathlib.Core.List.{List}
 use lib.ListN.{length}
-use lib.Dec.{eqb}
-use borrow.Author.Tests.{eqb-true}
-use Rattle.wav_file.specs.Bytes.{byte, named}
-use Rattle.wav_file.specs.Riff.{sizeAt, isFormat, isData, whole, after, isLast, chunks}
+use Rattle.wav_file.specs.Bytes.{byte}
+use Rattle.wav_file.specs.Riff.{sizeAt, isFormat, isData, after, isLast, chunks}
 use Rattle.wav_file.specs.Find.{formatAt, dataAt, found}
 use Rattle.wav_file.specs.Walked.{In, Looked, riff, wave, head, format, Skipped, size, pad, content, beyond, behind}
 use Rattle.wav_file.proofs.Firsts.{clash, first-hit}
 use Rattle.wav_file.proofs.Apart.{Apart, one, up, down, apart, after-is, data-named, data-last, two-names}
 use Rattle.wav_file.proofs.Part.{format-is}
-use Rattle.wav_file.proofs.Walks.{after-more, along-chunks, places}
+use Rattle.wav_file.proofs.Walks.{after-more, places}
 use Rattle.wav_file.proofs.Same.{same-found}
 
 -- ---- the head of a walked chunk, and the bytes of the first `fmt `

@@ -1,6 +1,5 @@
 -- How long the text of a file can be: at most 229247 bytes, which a page of that size holds. Assumes nothing.
-use mathlib.Core.Path.{_≡_, refl, sym, _∙_}
-use mathlib.Core.Bool.{Bool, true, false, _||_}
+use mathlib.Core.Path.{_≡_, sym, _∙_}
 use mathlib.Core.List.{List, _++_}
 use Prim.Native.Nat.{ℕ, zero, suc, _+_, _*_, _/_, _≤_, _<_}
 use native.Mathlib.Omega.{arith}
@@ -8,7 +7,6 @@ use lib.ListN.{length, take, length-append}
 use lib.IntN.{ℤ, pos}
 use lib.Dec.{eqb}
 use borrow.Author.Tests.{eqb-true}
-use Rattle.fixed.specs.Iter.{either}
 use Rattle.fixed.proofs.Iters.{either-all}
 use Rattle.fixed.proofs.Lin.{sfits-lin}
 use Rattle.fixed.proofs.Wraps.{wrap16-fits}
@@ -17,10 +15,10 @@ use Rattle.pages.proofs.Pages.{puts-leaves, puts-used}
 use Rattle.sheet_text.specs.Text.{lineOf}
 use Rattle.sheet_text.proofs.Short.{Small, AllSmall, all-more, line-count, line-one, lines-short}
 use Rattle.wav_file.specs.Bytes.{word16}
-use Rattle.wav_file.specs.Find.{rateAllowed, answerOf, applies, found, partOf}
+use Rattle.wav_file.specs.Find.{answerOf, found, partOf}
 use Rattle.wav_file.specs.Fill.{sampleOf, samplesOf}
-use Rattle.wav_file.proofs.Exactly.{found-answer}
-use Rattle.wav_file.proofs.Part.{format-is-first, found-most}
+use Rattle.wav_file.proofs.Exactly.{found-answer, answer-most}
+use Rattle.wav_file.proofs.Part.{rate-most, format-is-first, found-most}
 use Rattle.wav_file.proofs.Rows.{length-samples}
 use Rattle.wav_page.specs.Text.{wavWord, rateWord, samplesWord, soundText, foundText, noteOf, wavText}
 
@@ -32,24 +30,6 @@ sample-small bytes i = omega (arith, sfits-lin (wrap16-fits (pos (word16 bytes (
 samples-small : (bytes : List ℕ) (n : ℕ) → AllSmall (samplesOf bytes n)
 samples-small bytes zero = tt
 samples-small bytes (suc n) = all-more (samplesOf bytes n) (sampleOf bytes n) (samples-small bytes n) (sample-small bytes n)
-
--- ---- the numbers: a rate that is allowed, and a refusal's
-rate-small : (rate : ℕ) → rateAllowed rate ≡ true → rate < 100000
-unfolding rateAllowed
-rate-small rate h = turn (eqb rate 8000) (eqb rate 12000) refl refl h
-  where
-    turn : (a b : Bool) → eqb rate 8000 ≡ a → eqb rate 12000 ≡ b → a || (b || eqb rate 16000) ≡ true → rate < 100000
-    turn true b x y e = omega (arith, eqb-true rate 8000 x)
-    turn false true x y e = omega (arith, eqb-true rate 12000 y)
-    turn false false x y e = omega (arith, eqb-true rate 16000 e)
-
-answer-small : (f : List ℕ) → answerOf f < 10
-unfolding answerOf
-answer-small f =
-    below 1 1 _ (omega arith) (below 2 2 _ (omega arith) (below 3 3 _ (omega arith) (below 4 4 _ (omega arith) (below 5 5 _ (omega arith) (below 6 6 _ (omega arith) (below 7 7 0 (omega arith) (omega arith)))))))
-  where
-    below : (j k m : ℕ) → k < 10 → m < 10 → either (applies f j) k m < 10
-    below j k m h l = either-all (λ (n : ℕ). n < 10) (applies f j) k m (λ e. h) (λ e. l)
 
 -- ---- the text: 11 bytes for the rate's line, 14 for the number of samples, 7 for each sample with what follows it
 sound-short : (rate : ℕ) (row : List ℤ) → rate < 100000 → AllSmall row → length row ≤ 32746 → length (soundText rate row) ≤ 229247
@@ -72,8 +52,8 @@ text-most s =
     either-all (λ (text : List ℕ). length text ≤ 229247) (eqb ((found s) .answer) 0) _ _
     (λ e.
     let ok : answerOf s ≡ 0 = sym (found-answer s) ∙ eqb-true ((found s) .answer) 0 e in
-    sound-short ((found s) .rate) (noteOf s) (rate-small ((found s) .rate) (format-is-first s ok .allowed)) (note-small s) (note-short s))
-    (λ e. omega (arith, line-one wavWord ((found s) .answer) (rw (found-answer s) (answer-small s))))
+    sound-short ((found s) .rate) (noteOf s) (omega (arith, rate-most ((found s) .rate) (format-is-first s ok .allowed))) (note-small s) (note-short s))
+    (λ e. omega (arith, line-one wavWord ((found s) .answer) (rw (found-answer s) (omega (arith, answer-most s)))))
 
 -- so a page of that size holds it: of a count and a page of which the contract's equation is known, the first bytes, as many as the count says, are
 -- the text, and the count is within the page

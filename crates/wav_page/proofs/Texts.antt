@@ -14,7 +14,7 @@ use Rattle.wav_file.specs.Find.{found, part, partOf}
 use Rattle.wav_file.specs.Fill.{Filled, samplesOf, filled, filling}
 use Rattle.wav_file.specs.declared.find.Found.{Found}
 use Rattle.wav_file.proofs.Exactly.{found-answer}
-use Rattle.wav_file.proofs.Part.{part-is-data, found-most}
+use Rattle.wav_file.proofs.Part.{part-is-data, part-length, found-most}
 use Rattle.wav_file.proofs.Rows.{alike}
 use Rattle.wav_page.specs.Text.{wavWord, rateWord, samplesWord, soundText, foundText, noteOf, wavText}
 
@@ -48,15 +48,12 @@ module _ (f : List ℕ) (r : Found) (e : r ≡ found f) where
     accepted : (found f) .answer ≡ 0
     accepted = sym (ap (λ (x : Found). x .answer) e) ∙ ok
 
-    part-long : length (partOf f) ≡ (found f) .length
-    part-long = part-is-data f (sym (found-answer f) ∙ accepted) .bytes
-
     pub part-even : length (partOf f) % 2 ≡ 0
-    part-even = rw part-long (part-is-data f (sym (found-answer f) ∙ accepted) .even)
+    part-even = rw (part-length f) (part-is-data f (sym (found-answer f) ∙ accepted) .even)
 
     pub part-short : length (partOf f) ≤ 65492
-    part-short = rw part-long (found-most f)
+    part-short = rw (part-length f) (found-most f)
 
     pub accepted-text : soundText (r .rate) (samplesOf (partOf f) (length (partOf f) / 2)) ≡ wavText f
     unfolding wavText foundText noteOf
-    accepted-text = rw (part-long, accepted, e)
+    accepted-text = rw (part-length f, accepted, e)

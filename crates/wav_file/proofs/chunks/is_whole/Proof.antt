@@ -1,8 +1,6 @@
 -- `wav_file::chunks::is_whole` meets its contract: what is left behind the head is compared with the length. Assumes nothing.
 use mathlib.Core.Path.{sym}
-use Prim.Native.Nat.{_+_, _≤_}
 use native.Mathlib.Omega.{arith}
-use lib.ListN.{length}
 use denote.Ref.{now}
 use borrow.Author.Needs.{needs}
 use Rattle.wav_file.proofs.Going.{is-whole, not-whole, no-head}
