@@ -3,7 +3,7 @@
 one path. It shows what a call is made of; a real encoder works its numbers out with more care.
 
 vowel.py wav > vowel.wav: the same vowel, 60 ms of it, so three frames, as a WAV file. Before its samples it has a chunk of an odd length with a
-title, which a reader has to walk over.
+remark, which a reader has to walk over.
 
 Nothing but Python's own library."""
 import sys
@@ -67,9 +67,8 @@ def chunk(name, content):
 
 def wav():
     x = vowel(3 * N)
-    form = pack('<HHIIHH', 1, 1, RATE, 2 * RATE, 2, 16)  # PCM, channels, samples and bytes a second, bytes a frame, bits a sample
-    title = b'INFO' + b'INAM' + pack('<I', 5) + b'vowel'
-    chunks = b'WAVE' + chunk(b'fmt ', form) + chunk(b'LIST', title) + chunk(b'data', pack(f'<{len(x)}h', *x))
+    form = pack('<HHIIHH', 1, 1, RATE, 2 * RATE, 2, 16)  # PCM, channels, samples and bytes a second, bytes a sample, bits a sample
+    chunks = b'WAVE' + chunk(b'fmt ', form) + chunk(b'note', b'a vowel, 3 frames') + chunk(b'data', pack(f'<{len(x)}h', *x))
     sys.stdout.buffer.write(chunk(b'RIFF', chunks))
 
 

@@ -26,8 +26,8 @@
 
 /* A call needs at most this many bytes of stack, 48 KB: measured, not proved. On a painted stack (tests/compare/stack.c; calls of every L,
  * voiced and not, each with 1 to 4 paths) nsq_del_dec_report used 44,344 bytes on x86-64, 44,160 on aarch64 and 45,376 on riscv64 (these two
- * under qemu-user); nsq_del_dec 160 to 224 less; the two functions for WAV files 16 to 64, on the longest files. A program that is linked
- * dynamically looks up memcpy and its like in the first call that needs them: that took up to 3,024 bytes more. */
+ * under qemu-user); nsq_del_dec 160 to 224 less. nsq_wav_find and nsq_wav_samples used 16 to 72 bytes, on the longest files. A program that
+ * is linked dynamically looks up memcpy and its like in the first call that needs them: that took up to 3,024 bytes more. */
 #define NSQ_STACK 49152
 
 #ifdef __cplusplus
@@ -183,8 +183,8 @@ enum {
  * byte where that length is odd; at the very end of the file the pad byte may be missing. The walked chunks are those from byte 12 on, one after
  * the other, up to the first `data`, which is one of them, or to the end of the file. Names are compared exactly.
  *
- * Not looked at: the size that follows RIFF, pad bytes, the contents of chunks with other names and of a second `fmt `, the bytes a second and
- * the bytes a frame in `fmt ` and what follows its first 16 bytes, the samples, and all that is behind the first `data`. */
+ * Not looked at: the size that follows RIFF, pad bytes, the contents of chunks with other names and of later `fmt `s, the bytes a second and
+ * the bytes a sample in `fmt ` and what follows its first 16 bytes, the samples, and all that is behind the first `data`. */
 uint32_t nsq_wav_find(const uint8_t *file, size_t file_len, uint32_t *start, uint32_t *length, uint32_t *rate);
 
 /* Makes samples of such a part, two bytes each, low byte first: after nsq_wav_find,

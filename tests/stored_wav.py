@@ -6,7 +6,8 @@ FOLDER holds e5_find.cases and e5_samples.cases, and what must come back in e5_f
 has `find` and `samples`. None of it was made by this project. A line of cases is `NAME BYTES ..` or `NAME ROWLENGTH BYTES ..`; BYTES are hex digits,
 HH*n is that byte n times, ?s*n are n bytes of a generator that is begun with s. What the reference says must be what is expected, or nothing is written.
 
-All cases of at most SHORT bytes are taken, and of the longer ones those of LONG. On the list a file stands after `find`, its length (six digits) and a
+All files of at most SHORT bytes are taken, and all parts of at most so many with a row of at most so many words; of the longer ones those of LONG. On
+the list a file stands after `find`, its length (six digits) and a
 line feed; a part after `fill`, the row's length and its own length (six digits each) and a line feed. What must be printed for a file: the lines
 `answer A`, `start S`, `length L` and `rate R`, then the text of the program `wav`. For a part: `answer A`, and the row as it is left, twenty words to a
 line.
@@ -16,8 +17,8 @@ import pathlib
 import sys
 
 SHORT = 4200
-# the longest file and one byte more, a walk over the most chunks, the longest part
-LONG = {"size0009", "size0013", "walk0001", "long0008"}
+# the longest file and one byte more, a walk over 8,189 chunks, the longest part
+LONG = {"size0009", "size0013", "size0012", "long0008"}
 CRATE = pathlib.Path(__file__).resolve().parent.parent / "crates" / "wav_replay"
 
 

@@ -1,5 +1,6 @@
 /* Codes a note from a WAV file: finds the samples in it, makes a row of them, and codes that in frames of 20 ms, the state handed from one to the
- * next; a rest that is no whole frame is left out. Then tries the file without its last byte, which is refused. After tools/build-lib:
+ * next; a rest that is no whole frame is left out. Then tries the file without its last byte, which is refused where that byte is one of the
+ * samples, as in examples/vowel.wav. After tools/build-lib:
  *   gcc -O2 -Iinclude examples/c/note.c target/staticlib/libnsq_c.a -o target/note && target/note [FILE]
  * Without a FILE it is examples/vowel.wav, which examples/vowel.py made; examples/note.expect is what it prints of that. tests/examples holds that
  * text to the Rust and to Python's module wave. */

@@ -1,5 +1,6 @@
 //! Codes a note from a WAV file: finds the samples in it and codes them in frames of 20 ms, the state handed from one to the next; a rest that is
-//! no whole frame is left out. Then tries the file without its last byte, which is refused. After tools/build-lib:
+//! no whole frame is left out. Then tries the file without its last byte, which is refused where that byte is one of the samples, as in
+//! examples/vowel.wav. After tools/build-lib:
 //!   cargo run --manifest-path bindings/rust/Cargo.toml --example note [FILE]
 //! Without a FILE it is examples/vowel.wav of the repository.
 use nsq::wav::{self, Note, WavRefusal};

@@ -4,7 +4,7 @@ use nsq::wav::{find, samples, Note, WavRefusal, BYTES, SAMPLES};
 use std::error::Error;
 use std::ops::Range;
 
-/// PCM, one channel, 16000 samples a second, 32000 bytes a second, 2 bytes a frame, 16 bits
+/// PCM, one channel, 16000 samples a second, 32000 bytes a second, 2 bytes a sample, 16 bits
 const FORMAT: [u8; 16] = [1, 0, 1, 0, 0x80, 0x3e, 0, 0, 0, 0x7d, 0, 0, 2, 0, 16, 0];
 
 /// a chunk with its head, and its pad byte where it has one

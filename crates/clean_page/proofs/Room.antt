@@ -6,7 +6,7 @@ use native.Mathlib.Nat.{suc-mul, mul-le-mul-right}
 use mathlib.Core.Path.{_≡_, refl, subst}
 use mathlib.Core.Bool.{Bool, true, false}
 use mathlib.Core.List.{List, [], _∷_, _++_}
-use lib.ListN.{length, getD, take, length-append}
+use lib.ListN.{length, getD, length-append}
 use lib.IntN.{ℤ, pos, negsuc}
 use lib.Dec.{eqb, ltb}
 use borrow.Author.Tests.{eqb-true, eqb-false, ltb-false}
@@ -15,7 +15,7 @@ use Rattle.fixed.proofs.Lin.{P, N, lt-false}
 use Rattle.limits.specs.Count.{sameZ}
 use Rattle.pages.specs.Decimal.{decimal}
 use Rattle.pages.specs.Page.{page, puts}
-use Rattle.pages.proofs.Pages.{puts-leaves, puts-used}
+use Rattle.pages.proofs.Pages.{Whole, whole-page as on-page}
 use Rattle.refusal_rules.specs.declared.answer.Answer.{Answer}
 use Rattle.refusal_rules.specs.declared.answer.Answer.the-variants.{Accepted, Lengths, Orders, Paths, Kinds, Rows, Gains, Lags}
 use Rattle.refusal_rules.specs.Code.{codeOf}
@@ -296,16 +296,5 @@ text-most s = found (reading s) refl
 
 -- ---- so a page of 65545 bytes holds it: of a count and a page of which the contract's equation is known, the first bytes, as many as the count
 -- says, are the text, and the count is within the page
-pub record Whole (s : List ℕ) (out bytes : List ℕ) (used : ℕ) : Type 0 where
-  pub put : page used bytes ≡ puts (cleanText s) (page 0 out)
-  pub text : take used bytes ≡ cleanText s
-  pub within : used ≤ length bytes
-
-pub whole-page : (s t out bytes : List ℕ) (used : ℕ) → s ≡ t → length out ≡ 65545 → page used bytes ≡ puts (cleanText s) (page 0 out) → Whole t out bytes used
-whole-page s t out bytes used e l p =
-    let q : page used bytes ≡ puts (cleanText t) (page 0 out) = rw e at p in
-    record {
-      put = q;
-      text = puts-leaves (cleanText t) out bytes used q (omega (arith, text-most t));
-      within = puts-used (cleanText t) out bytes used q;
-    }
+pub whole-page : (s t out bytes : List ℕ) (used : ℕ) → s ≡ t → length out ≡ 65545 → page used bytes ≡ puts (cleanText s) (page 0 out) → Whole (cleanText t) out bytes used
+whole-page s t out bytes used e l p = on-page cleanText s t out bytes used e (omega (arith, text-most t)) p

@@ -78,3 +78,17 @@ pub puts-leaves : (s out bytes : List ℕ) (used : ℕ) → page used bytes ≡ 
 puts-leaves s out bytes used e h =
     let w = e ∙ puts-first s out h in
     rw (ap (λ (p : Page). p .used) w, ap (λ (p : Page). p .bytes) w) (take-append-seam s (drop (length s) out))
+
+-- ---- a program's page
+-- on the page `out` stands the text, whole: the page's own equation, its first bytes, and that the count is within it
+pub record Whole (text out bytes : List ℕ) (used : ℕ) : Type 0 where
+  pub put : page used bytes ≡ puts text (page 0 out)
+  pub text-first : take used bytes ≡ text
+  pub within : used ≤ length bytes
+
+-- the text of s, which is t, on a page that has room for the text of t
+pub whole-page : (text : List ℕ → List ℕ) (s t out bytes : List ℕ) (used : ℕ) → s ≡ t → length (text t) ≤ length out → page used bytes ≡ puts (text s) (page 0 out)
+    → Whole (text t) out bytes used
+whole-page text s t out bytes used e h p =
+    let q : page used bytes ≡ puts (text t) (page 0 out) = rw e at p in
+    record { put = q; text-first = puts-leaves (text t) out bytes used q h; within = puts-used (text t) out bytes used q }

@@ -17,7 +17,7 @@ use Rattle.fixed.proofs.Lin.{sfits-lin}
 use Rattle.silk.proofs.Zeros.{zeros-word}
 use Rattle.silk.specs.State.{zeros}
 use Rattle.pages.specs.Page.{page, puts}
-use Rattle.pages.proofs.Pages.{puts-leaves, puts-used}
+use Rattle.pages.proofs.Pages.{puts-leaves, Whole, whole-page as on-page}
 use Rattle.refusal_rules.specs.declared.answer.Answer.{Answer}
 use Rattle.refusal_rules.specs.declared.answer.Answer.the-variants.{Accepted, Lengths, Orders, Paths, Kinds, Rows, Gains, Lags}
 use Rattle.refusal_rules.specs.Code.{codeOf}
@@ -91,16 +91,5 @@ sheet-page-leaves κs a r e p l =
     puts-leaves (sheetPage keepsFirst (now (a .0))) (now (a .1 .0)) (now (e .1 .0)) r p (omega (arith, text-most keepsFirst (now (a .0))))
 
 -- .. and of a count and a page of which the contract's equation is known: the count is within the page too
-pub record Whole (s : List ℕ) (out bytes : List ℕ) (used : ℕ) : Type 0 where
-  pub put : page used bytes ≡ puts (sheetPage keepsFirst s) (page 0 out)
-  pub text : take used bytes ≡ sheetPage keepsFirst s
-  pub within : used ≤ length bytes
-
-pub whole-page : (s t out bytes : List ℕ) (used : ℕ) → s ≡ t → length out ≡ 4096 → page used bytes ≡ puts (sheetPage keepsFirst s) (page 0 out) → Whole t out bytes used
-whole-page s t out bytes used e l p =
-    let q : page used bytes ≡ puts (sheetPage keepsFirst t) (page 0 out) = rw e at p in
-    record {
-      put = q;
-      text = puts-leaves (sheetPage keepsFirst t) out bytes used q (omega (arith, text-most keepsFirst t));
-      within = puts-used (sheetPage keepsFirst t) out bytes used q;
-    }
+pub whole-page : (s t out bytes : List ℕ) (used : ℕ) → s ≡ t → length out ≡ 4096 → page used bytes ≡ puts (sheetPage keepsFirst s) (page 0 out) → Whole (sheetPage keepsFirst t) out bytes used
+whole-page s t out bytes used e l p = on-page (sheetPage keepsFirst) s t out bytes used e (omega (arith, text-most keepsFirst t)) p

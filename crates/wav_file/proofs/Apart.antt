@@ -12,7 +12,7 @@ use Rattle.wav_file.specs.Riff.{sizeAt, isFormat, isData, whole, after, 
 use Rattle.wav_file.specs.Find.{dataAt}
 use Rattle.wav_file.specs.Walked.{In}
 use Rattle.wav_file.proofs.Firsts.{first-hit}
-use Rattle.wav_file.proofs.Walks.{after-more, along-chunks, places}
+use Rattle.wav_file.proofs.Walks.{along-ordered, places}
 
 -- two walked chunks are one, or one lies behind the other and that other isn't the walk's last
 pub data Apart (f : List ℕ) (a b : ℕ) : Type 0 where
@@ -22,27 +22,20 @@ pub data Apart (f : List ℕ) (a b : ℕ) : Type 0 where
 
 pub apart : (f : List ℕ) (a b : ℕ) → In a (chunks f) → In b (chunks f) → Apart f a b
 apart f a b =
-    along-chunks (λ at l. ((p : ℕ) → In p l → at ≤ p) × (In a l → In b l → Apart f a b)) f
-    (λ at h. ((λ p i. absurd i), (λ i. absurd i)))
-    (λ at h l. (
-      (λ p i. ⊎-elim (λ (e : p ≡ at). omega arith) (λ i. absurd i) i),
-      (λ i j. ⊎-elim (λ (e : a ≡ at). ⊎-elim (λ (u : b ≡ at). one (e ∙ sym u)) (λ j. absurd j) j) (λ i. absurd i) i),
-    ))
-    (λ at rest h l r. (
-      (λ p i. ⊎-elim (λ (e : p ≡ at). omega arith) (λ (j : In p rest). omega (arith, r .0 p j, after-more f at)) i),
-      (λ i j.
-          ⊎-elim
-          (λ (e : a ≡ at).
-          ⊎-elim (λ (u : b ≡ at). one (e ∙ sym u))
-          (λ (k : In b rest). up (subst (λ (x : ℕ). after f x ≤ b) (sym e) (r .0 b k)) (subst (λ (x : ℕ). isLast f x ≡ false) (sym e) l))
-          j)
-          (λ (m : In a rest).
-          ⊎-elim (λ (u : b ≡ at). down (subst (λ (x : ℕ). after f x ≤ a) (sym u) (r .0 a m)) (subst (λ (x : ℕ). isLast f x ≡ false) (sym u) l))
-          (λ (k : In b rest). r .1 m k)
-          j)
-          i),
-    ))
-    .1
+    along-ordered (λ at l. In a l → In b l → Apart f a b) f
+    (λ at h i j. absurd i)
+    (λ at h l i j. ⊎-elim (λ (e : a ≡ at). ⊎-elim (λ (u : b ≡ at). one (e ∙ sym u)) (λ j. absurd j) j) (λ i. absurd i) i)
+    (λ at rest h l o r i j.
+    ⊎-elim
+    (λ (e : a ≡ at).
+    ⊎-elim (λ (u : b ≡ at). one (e ∙ sym u))
+    (λ (k : In b rest). up (subst (λ (x : ℕ). after f x ≤ b) (sym e) (o b k)) (subst (λ (x : ℕ). isLast f x ≡ false) (sym e) l))
+    j)
+    (λ (m : In a rest).
+    ⊎-elim (λ (u : b ≡ at). down (subst (λ (x : ℕ). after f x ≤ a) (sym u) (o a m)) (subst (λ (x : ℕ). isLast f x ≡ false) (sym u) l))
+    (λ (k : In b rest). r m k)
+    j)
+    i)
 
 pub after-is : (f : List ℕ) (at : ℕ) → after f at ≡ at + 8 + sizeAt f at + sizeAt f at % 2
 unfolding after
@@ -61,9 +54,12 @@ pub data-named : (f : List ℕ) → In (dataAt f) (chunks f) → isData f (dataA
 unfolding dataAt
 data-named f i = first-hit (isData f) (chunks f) (omega (arith, places f (dataAt f) i)) .1
 
-pub data-last : (f : List ℕ) → In (dataAt f) (chunks f) → isLast f (dataAt f) ≡ true
+pub last-data : (f : List ℕ) (at : ℕ) → isData f at ≡ true → isLast f at ≡ true
 unfolding isLast
-data-last f i = or-true (whole f (dataAt f)) (isData f (dataAt f)) (data-named f i)
+last-data f at d = or-true (whole f at) (isData f at) d
+
+pub data-last : (f : List ℕ) → In (dataAt f) (chunks f) → isLast f (dataAt f) ≡ true
+data-last f i = last-data f (dataAt f) (data-named f i)
 
 -- no chunk has both names
 pub two-names : (f : List ℕ) (at : ℕ) → isData f at ≡ true → isFormat f at ≡ true → ⊥

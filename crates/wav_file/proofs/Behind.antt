@@ -14,7 +14,7 @@ use Rattle.fixed.proofs.Parts.{drop-take}
 use Rattle.wav_file.specs.Bytes.{byte}
 use Rattle.wav_file.specs.Riff.{sizeAt, whole, isLast, chunksFrom, chunks}
 use Rattle.wav_file.specs.Find.{formatAt, dataAt, tooLong, answerOf, found, part, partOf}
-use Rattle.wav_file.specs.Walked.{In, Looked, riff, wave, head, format}
+use Rattle.wav_file.specs.Walked.{In, Looked, riff, wave, head, format, width}
 use Rattle.wav_file.proofs.Firsts.{clash}
 use Rattle.wav_file.proofs.Walks.{along-chunks, chunks-more, places}
 use Rattle.wav_file.proofs.Apart.{Apart, one, up, down, apart, after-is, data-last}
@@ -45,6 +45,7 @@ module _ (f : List ℕ) (ok : answerOf f ≡ 0) where
       turn (wave k u) s b w = omega arith
       turn (head at i k u) s b w = omega (arith, before at i)
       turn (format n k u) s b w = omega arith
+      turn (width n k u) s b w = omega arith
 
 -- ---- another file, in which the part has room, with the same bytes wherever the first is looked at
 module _ (f g : List ℕ) (ok : answerOf f ≡ 0) (fits : (found f) .start + (found f) .length ≤ length g) (short : length g ≤ 65536)

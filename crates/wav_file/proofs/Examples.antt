@@ -126,7 +126,7 @@ pub no-format :
 unfolding word16 word32 named sizeAt isFormat isData whole after isLast chunksFrom pastAt formatAt dataAt rateAllowed otherSound tooLong notWave runsPast noFormat otherFormat noData oddData table answerOf accepted found
 no-format = refl
 
--- 5: another coding, also the extensible one; two channels, also before a good `fmt `, without a `data`, with an odd one; other widths; other rates, also
+-- 5: another coding, also the extensible one; two channels, also before a good `fmt `, without a `data`, with an odd one; another width; other rates, also
 -- one that would come round. Then a good `fmt ` without a `data`, 6, also with a `DATA`, and with an odd one, 7
 pub other-formats :
     (row (riff (fmt 16 (sound 3 1 8000 16 (dat 0 []))))

@@ -68,6 +68,9 @@ runs f m e p = turn (runsPast f) refl e
     turn true q e = q
     turn false q e = absurd (clash (m .past) p (ap (λ (x : Marks). x .past) e))
 
+positive : (n : ℕ) → (n ≡ 0 → ⊥) → 0 < n
+positive n h = omega arith
+
 -- the first that passes a test lies in the file
 first-fits : (t : ℕ → Bool) (f : List ℕ) → runsPast f ≡ false → 0 < first t (chunks f) → first t (chunks f) + 8 + sizeAt f (first t (chunks f)) ≤ length f
 first-fits t f h k = whole-le f (first t (chunks f)) (all-whole f h (first t (chunks f)) (first-hit t (chunks f) k .0))
@@ -135,9 +138,6 @@ module _ (f : List ℕ) (m : Marks) (short : length f ≤ 65536) (wave : notWave
 
       pub format-fits : m .format + 8 + sizeAt f (m .format) ≤ length f
       format-fits = rw (k .format) (format-at-fits f (k .no3) (positive (formatAt f) there))
-        where
-          positive : (n : ℕ) → (n ≡ 0 → ⊥) → 0 < n
-          positive n h = omega arith
 
       pub give4-short : sizeAt f (m .format) < 16 → found f ≡ refused 4
       give4-short s = give4 (no-format-short f there (rw (k .format) at s))
@@ -164,9 +164,6 @@ module _ (f : List ℕ) (m : Marks) (short : length f ≤ 65536) (wave : notWave
 
             pub body-fits : m .body + 8 + sizeAt f (m .body) ≤ length f
             body-fits = rw (k .body) (data-at-fits f (k .no3) (positive (dataAt f) held))
-              where
-                positive : (n : ℕ) → (n ≡ 0 → ⊥) → 0 < n
-                positive n h = omega arith
 
             pub give7 : sizeAt f (m .body) % 2 ≡ 1 → found f ≡ refused 7
             unfolding found answerOf table

@@ -2,7 +2,7 @@
 use Prim.Native.Nat.{ℕ, zero, suc, _+_, _-_, _≤_, _<_}
 use native.Mathlib.Omega.{arith}
 use mathlib.Core.Path.{_≡_, refl, _∙_}
-use mathlib.Core.Bool.{Bool, true, false, not, _||_}
+use mathlib.Core.Bool.{Bool, true, false, not}
 use mathlib.Core.List.{List}
 use lib.ListN.{length}
 use lib.Dec.{eqb, eqb·suc-zero}
@@ -12,7 +12,7 @@ use Rattle.wav_file.specs.Riff.{sizeAt, isFormat, isData, whole, after, 
 use Rattle.wav_file.specs.Find.{pastAt, formatAt, dataAt, runsPast}
 use Rattle.wav_file.specs.Marks.{marksOf, formatWith}
 use Rattle.wav_file.proofs.Walks.{after-more, chunks-end, chunks-more, is-not-last}
-use Rattle.wav_file.proofs.Apart.{two-names}
+use Rattle.wav_file.proofs.Apart.{last-data, two-names}
 
 -- with the first `fmt ` so far, 0 for none, the walk has come to `at`, and has met no chunk past the end and no `data`
 pub record Going (f : List ℕ) (fmt at : ℕ) : Type 0 where
@@ -37,14 +37,6 @@ last-past : (f : List ℕ) (at : ℕ) → whole f at ≡ false → isLast f at �
 unfolding isLast
 last-past f at w = rw w
 
-last-data : (f : List ℕ) (at : ℕ) → isData f at ≡ true → isLast f at ≡ true
-unfolding isLast
-last-data f at d = rw d (or-true (not (whole f at)))
-  where
-    or-true : (b : Bool) → b || true ≡ true
-    or-true true = refl
-    or-true false = refl
-
 -- a chunk runs past the end
 pub going-past : (f : List ℕ) (fmt at : ℕ) → Going f fmt at → at < length f → whole f at ≡ false
     → marksOf f ≡ record { past = true; format = 0; body = 0 }
@@ -61,7 +53,7 @@ going-data f fmt at g l w d =
     let z = last-data f at d in
     let e : pastAt f ≡ 0 = g .past ∙ rw (chunks-more f at l, w, z) in
     let n : isFormat f at ≡ false = no-format (isFormat f at) refl in
-    let u : formatAt f ≡ either (eqb fmt 0) 0 fmt = g .format ∙ rw (chunks-more f at l, n, z) in
+    let u : formatAt f ≡ fmt = g .format ∙ rw (chunks-more f at l, n, z) (or-zero fmt) in
     let v : dataAt f ≡ at = g .dat ∙ rw (chunks-more f at l, d) in
     rw (e, u, v, n)
   where
@@ -82,10 +74,11 @@ going-next f fmt at g l w d =
       dat = g .dat ∙ rw (chunks-more f at l, d, z);
     }
   where
-    turn : (n : ℕ) (b : Bool) (r : ℕ) → either (eqb n 0) (either b at r) n ≡ either (eqb (either (eqb n 0) (either b at 0) n) 0) r (either (eqb n 0) (either b at 0) n)
+    turn : (n : ℕ) (b : Bool) (r : ℕ) → either (eqb n 0) (either b at r) n ≡ either (eqb (either b (either (eqb n 0) at n) n) 0) r (either b (either (eqb n 0) at n) n)
     turn zero true r = rw (not-zero at (omega (arith, g .from)))
     turn zero false r = refl
-    turn (suc n) b r = rw (eqb·suc-zero n) (rw (eqb·suc-zero n))
+    turn (suc n) true r = rw (eqb·suc-zero n) (rw (eqb·suc-zero n))
+    turn (suc n) false r = rw (eqb·suc-zero n)
 
 -- the end of the file
 pub going-end : (f : List ℕ) (fmt at : ℕ) → Going f fmt at → length f ≤ at → marksOf f ≡ record { past = false; format = fmt; body = 0 }

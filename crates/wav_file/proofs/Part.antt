@@ -10,6 +10,7 @@ use lib.ListN.{length, length-take, length-drop}
 use lib.Dec.{ltb, eqb, eqb·suc-zero}
 use borrow.Author.Tests.{ltb-false, leb-true, eqb-true, eqb-false, not-false}
 use Rattle.fixed.specs.Iter.{either}
+use Rattle.fixed.proofs.Iters.{either-all}
 use Rattle.wav_file.specs.Bytes.{word16, word32}
 use Rattle.wav_file.specs.Riff.{sizeAt, isFormat, isData, whole, isLast, chunks, first}
 use Rattle.wav_file.specs.Find.{pastAt, formatAt, dataAt, rateAllowed, otherSound, runsPast, noFormat, otherFormat, noData, oddData, tooLong, table, answerOf, accepted, refused, found, part, partOf}
@@ -18,7 +19,7 @@ use Rattle.wav_file.specs.Shown.{IsData, IsFormat}
 use Rattle.wav_file.proofs.Apart.{Apart, one, up, down, apart, after-is, data-last, two-names}
 use Rattle.wav_file.proofs.Exactly.{exactly-accepted}
 use Rattle.wav_file.proofs.Firsts.{clash, first-hit, first-none}
-use Rattle.wav_file.proofs.Walks.{after-more, along-chunks, not-last, places, in-walked, walked-in}
+use Rattle.wav_file.proofs.Walks.{after-more, along-chunks, along-ordered, not-last, places, in-walked, walked-in}
 
 nonzero : (n : ℕ) → eqb n 0 ≡ false → 0 < n
 nonzero zero h = absurd (eqb-false 0 0 h refl)
@@ -39,21 +40,13 @@ only-data f p =
 -- the first that passes a test is the one at the lowest place
 pub lowest-place : (t : ℕ → Bool) (f : List ℕ) (p : ℕ) → In p (chunks f) → t p ≡ true → first t (chunks f) ≤ p
 lowest-place t f p =
-    along-chunks (λ at l. ((q : ℕ) → In q l → at ≤ q) × (In p l → t p ≡ true → first t l ≤ p)) f
-    (λ at h. ((λ q i. absurd i), (λ i. absurd i)))
-    (λ at h l. (
-      (λ q i. ⊎-elim (λ (e : q ≡ at). omega arith) (λ i. absurd i) i),
-      (λ i d. ⊎-elim (λ (e : p ≡ at). rw (subst (λ (x : ℕ). t x ≡ true) e d) (omega arith)) (λ i. absurd i) i),
-    ))
-    (λ at rest h l r. (
-      (λ q i. ⊎-elim (λ (e : q ≡ at). omega arith) (λ (j : In q rest). omega (arith, r .0 q j, after-more f at)) i),
-      (λ i d. ⊎-elim (λ (e : p ≡ at). rw (subst (λ (x : ℕ). t x ≡ true) e d) (omega arith)) (λ (j : In p rest). pick at rest (t at) (omega (arith, r .0 p j, after-more f at)) (r .1 j d)) i),
-    ))
-    .1
-  where
-    pick : (at : ℕ) (rest : List ℕ) (b : Bool) → at ≤ p → first t rest ≤ p → either b at (first t rest) ≤ p
-    pick at rest true u v = u
-    pick at rest false u v = v
+    along-ordered (λ at l. In p l → t p ≡ true → first t l ≤ p) f
+    (λ at h i d. absurd i)
+    (λ at h l i d. ⊎-elim (λ (e : p ≡ at). rw (subst (λ (x : ℕ). t x ≡ true) e d) (omega arith)) (λ i. absurd i) i)
+    (λ at rest h l o r i d.
+    ⊎-elim (λ (e : p ≡ at). rw (subst (λ (x : ℕ). t x ≡ true) e d) (omega arith))
+    (λ (j : In p rest). either-all (λ (n : ℕ). n ≤ p) (t at) at (first t rest) (λ e. omega (arith, o p j, after-more f at)) (λ e. r j d))
+    i)
 
 pub lowest-format : (f : List ℕ) (p : ℕ) → In p (chunks f) → isFormat f p ≡ true → formatAt f ≤ p
 unfolding formatAt

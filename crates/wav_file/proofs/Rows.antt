@@ -2,8 +2,8 @@
 use Prim.Native.Nat.{ℕ, zero, suc, _+_, _*_, _≤_, _<_}
 use native.Mathlib.Omega.{arith}
 use native.Mathlib.Numerals.{add-one}
-use mathlib.Core.Path.{_≡_, refl, sym, ap, _∙_}
-use mathlib.Core.List.{List, [], _∷_, _++_, append-assoc}
+use mathlib.Core.Path.{_≡_, refl, sym, _∙_}
+use mathlib.Core.List.{List, [], _∷_, _++_, append-assoc, append-nil}
 use lib.ListN.{length, getD, drop, set, length-append, length-drop, drop-of-length-le}
 use lib.Seq.{drop-cons, set-at}
 use lib.IntN.{ℤ, pos}
@@ -31,10 +31,6 @@ row-more b row i h =
 -- all of them
 pub row-all : (b : List ℕ) (row : List ℤ) → rowAt b row (length row) ≡ samplesOf b (length row)
 row-all b row = rw (drop-of-length-le row {i = length row} (omega arith)) (append-nil (samplesOf b (length row)))
-  where
-    append-nil : (l : List ℤ) → l ++ [] ≡ l
-    append-nil [] = refl
-    append-nil (x ∷ l) = ap (λ (t : List ℤ). x ∷ t) (append-nil l)
 
 -- ---- what is left, by whether the part is twice as long as the row
 module _ (b : List ℕ) (row : List ℤ) where

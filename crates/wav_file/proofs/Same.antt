@@ -12,7 +12,7 @@ use Rattle.fixed.specs.Iter.{either}
 use Rattle.wav_file.specs.Bytes.{byte, word16, word32, named}
 use Rattle.wav_file.specs.Riff.{sizeAt, isFormat, isData, whole, after, isLast, chunksFrom, chunks, first}
 use Rattle.wav_file.specs.Find.{pastAt, formatAt, dataAt, otherSound, tooLong, notWave, runsPast, noFormat, otherFormat, noData, oddData, table, answerOf, accepted, refused, found}
-use Rattle.wav_file.specs.Walked.{In, Looked, riff, wave, head, format}
+use Rattle.wav_file.specs.Walked.{In, Looked, riff, wave, head, format, width}
 use Rattle.wav_file.proofs.Firsts.{first-hit, first-same}
 use Rattle.wav_file.proofs.Part.{data-is, no4, no6}
 use Rattle.wav_file.proofs.Walks.{along-chunks, chunks-end, chunks-more}
@@ -49,7 +49,7 @@ pub record SameHead (f g : List ℕ) (at : ℕ) : Type 0 where
   pub size : sizeAt f at ≡ sizeAt g at
   pub fmt : isFormat f at ≡ isFormat g at
   pub dat : isData f at ≡ isData g at
-  pub whol : whole f at ≡ whole g at
+  pub lies : whole f at ≡ whole g at
   pub aft : after f at ≡ after g at
   pub last : isLast f at ≡ isLast g at
 
@@ -64,7 +64,7 @@ same-head f g at w h =
       size = s;
       fmt = same-name f g at n 102 109 116 32;
       dat = d;
-      whol = w s;
+      lies = w s;
       aft = rw s;
       last = rw (w s, d);
     }
@@ -82,7 +82,7 @@ module _ (f g : List ℕ) (same1 : tooLong f ≡ tooLong g) (h : (p : ℕ) → L
   same-past : pastAt f ≡ pastAt g
   unfolding pastAt
   same-past =
-      first-same (λ at. not (whole f at)) (λ at. not (whole g at)) (chunks f) (λ p i. ap not (heads p i .whol))
+      first-same (λ at. not (whole f at)) (λ at. not (whole g at)) (chunks f) (λ p i. ap not (heads p i .lies))
       ∙ ap (first (λ at. not (whole g at))) same-chunks
 
   same-format : formatAt f ≡ formatAt g
@@ -121,23 +121,21 @@ module _ (f g : List ℕ) (same1 : tooLong f ≡ tooLong g) (h : (p : ℕ) → L
       turn zero q = rw q
       turn (suc p) q = rw (size-format (omega arith))
 
-  -- the bytes of the first `fmt `
-  sounds : noFormat f ≡ false → SameFrom f g (formatAt f + 8) 16
-  sounds n i l = h (formatAt f + 8 + i) (format n (omega arith) (omega arith))
+  -- the first eight bytes of the first `fmt `, and its width
+  fields : noFormat f ≡ false → (k m j : ℕ) → j ≡ 8 + k → k + m ≤ 8 → SameFrom f g (formatAt f + j) m
+  fields n k m j q l i u = h (formatAt f + j + i) (format n (omega arith) (omega arith))
 
-  part-of : (n : noFormat f ≡ false) (k m j : ℕ) → j ≡ 8 + k → k + m ≤ 16 → SameFrom f g (formatAt f + j) m
-  part-of n k m j q l i u =
-      subst (λ (p : ℕ). byte f p ≡ byte g p) (omega arith) (sounds n (k + i) (omega arith))
+  width-same : noFormat f ≡ false → SameFrom f g (formatAt f + 22) 2
+  width-same n i u = h (formatAt f + 22 + i) (width n (omega arith) (omega arith))
 
   same-sound : noFormat f ≡ false → otherSound f (formatAt f) ≡ otherSound g (formatAt f)
   unfolding otherSound
   same-sound n =
-      let p = formatAt f in
       rw (
-        same16 f g (formatAt f + 8) (part-of n 0 2 8 refl (omega arith)),
-        same16 f g (formatAt f + 10) (part-of n 2 2 10 refl (omega arith)),
-        same32 f g (formatAt f + 12) (part-of n 4 4 12 refl (omega arith)),
-        same16 f g (formatAt f + 22) (part-of n 14 2 22 refl (omega arith)),
+        same16 f g (formatAt f + 8) (fields n 0 2 8 refl (omega arith)),
+        same16 f g (formatAt f + 10) (fields n 2 2 10 refl (omega arith)),
+        same32 f g (formatAt f + 12) (fields n 4 4 12 refl (omega arith)),
+        same16 f g (formatAt f + 22) (width-same n),
       )
 
   same5 : otherFormat f ≡ otherFormat g
@@ -172,7 +170,7 @@ module _ (f g : List ℕ) (same1 : tooLong f ≡ tooLong g) (h : (p : ℕ) → L
   same-accepted : answerOf f ≡ 0 → accepted f ≡ accepted g
   unfolding accepted
   same-accepted ok =
-      rw (← same-data, ← same-format, same32 f g (formatAt f + 12) (part-of (no4 f ok) 4 4 12 refl (omega arith)), heads (dataAt f) (data-is f (no6 f ok) .0) .size)
+      rw (← same-data, ← same-format, same32 f g (formatAt f + 12) (fields (no4 f ok) 4 4 12 refl (omega arith)), heads (dataAt f) (data-is f (no6 f ok) .0) .size)
 
   -- the same answer, place, length and rate
   pub walked-alike : found f ≡ found g

@@ -1,5 +1,6 @@
 -- What is passed over is not looked at: two files of one length that differ only in RIFF's size, pad bytes, contents of other chunks than the first
--- `fmt `, or bytes behind the first `data`'s head give the same answer, place, length and rate. Assumes nothing.
+-- `fmt `, in that the bytes a second, the bytes a sample and what is beyond 16 bytes, or bytes behind the first `data`'s head give the same answer,
+-- place, length and rate. Assumes nothing.
 use Prim.Native.Nat.{ℕ, _+_, _≤_, _<_}
 use native.Mathlib.Omega.{arith}
 use mathlib.Core.Path.{_≡_, sym, subst}
@@ -9,8 +10,8 @@ use mathlib.Core.List.{List}
 use lib.ListN.{length}
 use Rattle.wav_file.specs.Bytes.{byte}
 use Rattle.wav_file.specs.Riff.{sizeAt, isFormat, isData, after, isLast, chunks}
-use Rattle.wav_file.specs.Find.{formatAt, dataAt, found}
-use Rattle.wav_file.specs.Walked.{In, Looked, riff, wave, head, format, Skipped, size, pad, content, beyond, behind}
+use Rattle.wav_file.specs.Find.{formatAt, dataAt, noFormat, found}
+use Rattle.wav_file.specs.Walked.{In, Looked, riff, wave, head, format, width, Skipped, size, pad, content, unused, beyond, behind}
 use Rattle.wav_file.proofs.Firsts.{clash, first-hit}
 use Rattle.wav_file.proofs.Apart.{Apart, one, up, down, apart, after-is, data-named, data-last, two-names}
 use Rattle.wav_file.proofs.Part.{format-is}
@@ -42,32 +43,21 @@ last-format f p a b t n (up g w) s l k v = clash (isLast f a) t w
 last-format f p a b t n (down g w) s l k v = omega (arith, after-is f b)
 
 -- ---- what is passed over is not looked at
-pub not-looked : (f : List ℕ) (p : ℕ) → Skipped f p → Looked f p → ⊥
-not-looked f p (size l u) (riff k) = omega arith
-not-looked f p (size l u) (wave k v) = omega arith
-not-looked f p (size l u) (head b j k v) = omega (arith, places f b j)
-not-looked f p (size l u) (format n k v) = omega (arith, places f (formatAt f) (format-is f n .within))
-not-looked f p (pad a i e o) (riff k) = omega (arith, places f a i)
-not-looked f p (pad a i e o) (wave k v) = omega (arith, places f a i)
-not-looked f p (pad a i e o) (head b j k v) = clear-head f p a b (apart f a b i j) (omega arith) (omega (arith, after-is f a)) k v
-not-looked f p (pad a i e o) (format n k v) =
+-- it lies in the first 16 bytes of the first `fmt ` only between its first eight and its width
+not-in-format : (f : List ℕ) (p : ℕ) → Skipped f p → noFormat f ≡ false → formatAt f + 8 ≤ p → p < formatAt f + 24
+    → (formatAt f + 16 ≤ p → p < formatAt f + 22 → ⊥)
+    → ⊥
+not-in-format f p (size l u) n k v w = omega (arith, places f (formatAt f) (format-is f n .within))
+not-in-format f p (pad a i e o) n k v w =
     let d = format-is f n in
     clear-format f p a (formatAt f) (λ q. omega (arith, d .size, subst (λ (x : ℕ). p ≡ x + 8 + sizeAt f x) q e)) (apart f a (formatAt f) i (d .within)) (d .size) (omega arith) (omega (arith, after-is f a)) k v
-not-looked f p (content a i n l u) (riff k) = omega (arith, places f a i)
-not-looked f p (content a i n l u) (wave k v) = omega (arith, places f a i)
-not-looked f p (content a i n l u) (head b j k v) = clear-head f p a b (apart f a b i j) l (omega (arith, after-is f a)) k v
-not-looked f p (content a i n l u) (format m k v) =
-    let d = format-is f m in
-    clear-format f p a (formatAt f) n (apart f a (formatAt f) i (d .within)) (d .size) l (omega (arith, after-is f a)) k v
-not-looked f p (beyond i l u) (riff k) = omega arith
-not-looked f p (beyond i l u) (wave k v) = omega arith
-not-looked f p (beyond i l u) (head b j k v) = clear-head f p (formatAt f) b (apart f (formatAt f) b i j) (omega arith) (omega (arith, after-is f (formatAt f))) k v
-not-looked f p (beyond i l u) (format m k v) = omega arith
-not-looked f p (behind i l) (riff k) = omega arith
-not-looked f p (behind i l) (wave k v) = omega (arith, places f (dataAt f) i)
-not-looked f p (behind i l) (head b j k v) = last-head f p (dataAt f) b (data-last f i) (apart f (dataAt f) b i j) l k v
-not-looked f p (behind i l) (format m k v) =
-    let d = format-is f m in
+not-in-format f p (content a i m l u) n k v w =
+    let d = format-is f n in
+    clear-format f p a (formatAt f) m (apart f a (formatAt f) i (d .within)) (d .size) l (omega (arith, after-is f a)) k v
+not-in-format f p (unused m l u) n k v w = w l u
+not-in-format f p (beyond i l u) n k v w = omega arith
+not-in-format f p (behind i l) n k v w =
+    let d = format-is f n in
     last-format f p (dataAt f) (formatAt f) (data-last f i)
     (λ q. two-names f (formatAt f) (subst (λ (x : ℕ). isData f x ≡ true) q (data-named f i)) (d .name))
     (apart f (dataAt f) (formatAt f) i (d .within))
@@ -76,11 +66,35 @@ not-looked f p (behind i l) (format m k v) =
     k
     v
 
+pub not-looked : (f : List ℕ) (p : ℕ) → Skipped f p → Looked f p → ⊥
+not-looked f p s (format n l u) = not-in-format f p s n (omega arith) (omega arith) (λ h k. omega arith)
+not-looked f p s (width n l u) = not-in-format f p s n (omega arith) (omega arith) (λ h k. omega arith)
+not-looked f p (size l u) (riff k) = omega arith
+not-looked f p (size l u) (wave k v) = omega arith
+not-looked f p (size l u) (head b j k v) = omega (arith, places f b j)
+not-looked f p (pad a i e o) (riff k) = omega (arith, places f a i)
+not-looked f p (pad a i e o) (wave k v) = omega (arith, places f a i)
+not-looked f p (pad a i e o) (head b j k v) = clear-head f p a b (apart f a b i j) (omega arith) (omega (arith, after-is f a)) k v
+not-looked f p (content a i n l u) (riff k) = omega (arith, places f a i)
+not-looked f p (content a i n l u) (wave k v) = omega (arith, places f a i)
+not-looked f p (content a i n l u) (head b j k v) = clear-head f p a b (apart f a b i j) l (omega (arith, after-is f a)) k v
+not-looked f p (unused n l u) (riff k) = omega (arith, places f (formatAt f) (format-is f n .within))
+not-looked f p (unused n l u) (wave k v) = omega (arith, places f (formatAt f) (format-is f n .within))
+not-looked f p (unused n l u) (head b j k v) =
+    let d = format-is f n in
+    clear-head f p (formatAt f) b (apart f (formatAt f) b (d .within) j) (omega arith) (omega (arith, after-is f (formatAt f), d .size)) k v
+not-looked f p (beyond i l u) (riff k) = omega arith
+not-looked f p (beyond i l u) (wave k v) = omega arith
+not-looked f p (beyond i l u) (head b j k v) = clear-head f p (formatAt f) b (apart f (formatAt f) b i j) (omega arith) (omega (arith, after-is f (formatAt f))) k v
+not-looked f p (behind i l) (riff k) = omega arith
+not-looked f p (behind i l) (wave k v) = omega (arith, places f (dataAt f) i)
+not-looked f p (behind i l) (head b j k v) = last-head f p (dataAt f) b (data-last f i) (apart f (dataAt f) b i j) l k v
+
 -- the bytes of two files of one length are the same but where the first is passed over: so are the answer, the place, the length and the rate
 pub indifferent : (f g : List ℕ) → length f ≡ length g → ((p : ℕ) → (byte f p ≡ byte g p) ⊎ Skipped f p) → found f ≡ found g
 indifferent f g e h = same-found f g e (λ p l. ⊎-elim (λ (s : byte f p ≡ byte g p). s) (λ (s : Skipped f p). absurd (not-looked f p s l)) (h p))
 
--- the content of a walked chunk that is neither `fmt ` nor `data` is passed over
+-- the content of a walked chunk that is no `fmt ` is passed over
 pub unknown : (f : List ℕ) (p at : ℕ) → In at (chunks f) → isFormat f at ≡ false → at + 8 ≤ p → p < at + 8 + sizeAt f at → Skipped f p
 unfolding formatAt
 unknown f p at i n l u =

@@ -69,6 +69,22 @@ pub along-chunks : (Q : ℕ → List ℕ → Type 0) (f : List ℕ)
 unfolding chunksFrom
 along-chunks Q f e l m = along Q f e l m (length f - 12) 12 (omega arith)
 
+-- .. where all of the rest lies behind the chunk
+pub along-ordered : (Q : ℕ → List ℕ → Type 0) (f : List ℕ)
+    → ((at : ℕ) → length f ≤ at → Q at [])
+    → ((at : ℕ) → at < length f → isLast f at ≡ true → Q at (at ∷ []))
+    → ((at : ℕ) (rest : List ℕ) → at < length f → isLast f at ≡ false → ((p : ℕ) → In p rest → after f at ≤ p) → Q (after f at) rest → Q at (at ∷ rest))
+    → Q 12 (chunks f)
+along-ordered Q f e l m =
+    along-chunks (λ at s. ((p : ℕ) → In p s → at ≤ p) × Q at s) f
+    (λ at h. ((λ p i. absurd i), e at h))
+    (λ at h k. ((λ p i. ⊎-elim (λ (u : p ≡ at). omega arith) (λ i. absurd i) i), l at h k))
+    (λ at rest h k r. (
+      (λ p i. ⊎-elim (λ (u : p ≡ at). omega arith) (λ (j : In p rest). omega (arith, r .0 p j, after-more f at)) i),
+      m at rest h k (r .0) (r .1),
+    ))
+    .1
+
 -- ---- the last of a walk
 last-parts : (b c : Bool) → not b || c ≡ false → (b ≡ true) × (c ≡ false)
 last-parts true c h = (refl, h)
@@ -83,15 +99,13 @@ unfolding isLast
 is-not-last f at w d = rw (w, d)
 
 -- ---- the walked chunks are the list's
--- no place of the list lies before its start, and each lies in the file
-abbrev Within : List ℕ → ℕ → List ℕ → Type 0
-Within f at l = (p : ℕ) → In p l → (at ≤ p) × (p < length f)
-
+-- each lies in the file, and none before place 12
 pub places : (f : List ℕ) (p : ℕ) → In p (chunks f) → (12 ≤ p) × (p < length f)
-places f =
-    along-chunks (Within f) f (λ at h p i. absurd i)
-    (λ at h l p i. ⊎-elim (λ (e : p ≡ at). omega arith) (λ i. absurd i) i)
-    (λ at rest h l q p i. ⊎-elim (λ (e : p ≡ at). omega arith) (λ (i : In p rest). omega (arith, q p i, after-more f at)) i)
+places f p =
+    along-ordered (λ at l. In p l → (at ≤ p) × (p < length f)) f
+    (λ at h i. absurd i)
+    (λ at h l i. ⊎-elim (λ (e : p ≡ at). omega arith) (λ i. absurd i) i)
+    (λ at rest h l o q i. ⊎-elim (λ (e : p ≡ at). omega arith) (λ (j : In p rest). omega (arith, q j, after-more f at)) i)
 
 pub in-walked : (f : List ℕ) (p : ℕ) → In p (chunks f) → Walked f p
 in-walked f p =

@@ -51,7 +51,7 @@ runsPast file = not (eqb (pastAt file) 0)
 unfoldable pub noFormat : List ℕ → Bool
 noFormat file = either (eqb (formatAt file) 0) true (ltb (sizeAt file (formatAt file)) 16)
 
--- 5: the first `fmt ` is of that length, and of another sound
+-- 5: the first `fmt ` has 16 bytes or more, and asks for another sound
 unfoldable pub otherFormat : List ℕ → Bool
 otherFormat file = either (noFormat file) false (otherSound file (formatAt file))
 

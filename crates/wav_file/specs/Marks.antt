@@ -15,4 +15,4 @@ marksOf file =
 
 -- the first `fmt ` of a walk that has come to the chunk at `at`, when it was `format` before, 0 for none
 unfoldable pub formatWith : List ℕ → ℕ → ℕ → ℕ
-formatWith file at format = either (eqb format 0) (either (isFormat file at) at 0) format
+formatWith file at format = either (isFormat file at) (either (eqb format 0) at format) format

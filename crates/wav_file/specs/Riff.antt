@@ -39,7 +39,7 @@ abbrev pub walk : ℕ → List ℕ → ℕ → List ℕ
 walk zero file at = []
 walk (suc n) file at = either (ltb at (length file)) (at ∷ either (isLast file at) [] (walk n file (after file at))) []
 
--- all of those: a chunk takes eight bytes at least, so there are fewer than bytes left
+-- all of those: each step goes on by eight bytes at least, so there are no more of them than bytes left
 unfoldable pub chunksFrom : List ℕ → ℕ → List ℕ
 chunksFrom file at = walk (length file - at) file at
 

@@ -2,6 +2,8 @@
 ghost use mathlib.Core.Path.{_≡_};
 ghost use mathlib.Core.Bool.{true};
 ghost use Prim.Native.Nat.{_+_, _≤_, _<_};
+ghost use lib.Dec.{eqb};
+ghost use Rattle.fixed.specs.Iter.{either};
 ghost use Rattle.wav_file.specs.Riff.{sizeAt, whole, after as afterAt};
 ghost use Rattle.wav_file.specs.Marks.{marksOf, formatWith};
 use crate::bytes;
@@ -49,21 +51,29 @@ fn after(file: &[u8], at: usize) -> usize
     at + 8 + size + size % 2
 }
 
+// The place that was met first, where 0 stands for none before.
+fn first_of(before: usize, at: usize) -> usize
+    ensures { λ r. ⌜ r ≡ either (eqb before 0) at before ⌝ }
+{
+    if before != 0 {
+        return before;
+    }
+    at
+}
+
 // The first `fmt `, one chunk further.
 fn format_with(file: &[u8], at: usize, format: usize) -> usize
     requires { do ⌜ at + 8 ≤ (← ⟦file.len()⟧) ⌝ }
     ensures { λ r. ⌜ r ≡ formatWith (now (file .entry)) at format ⌝ }
 {
-    if format != 0 {
-        return format;
-    }
     if bytes::named(file, at, b'f', b'm', b't', b' ') {
-        return at;
+        return first_of(format, at);
     }
-    0
+    format
 }
 
-// The chunks from place 12 on, up to the first `data` or the end. Each takes eight bytes at least, so there are at most 8,191.
+// The chunks from place 12 on, up to the first `data` or the end. Each but the last takes eight bytes at least, so
+// there are at most 8,191.
 pub fn walk(file: &[u8]) -> Marks
     requires { do ⌜ (← ⟦file.len()⟧) ≤ 65536 ⌝ }
     ensures { λ r. ⌜ r ≡ marksOf (now (file .entry)) ⌝ }

@@ -3,7 +3,7 @@ use mathlib.Core.Path.{_≡_, sym, _∙_}
 use mathlib.Core.List.{List, _++_}
 use Prim.Native.Nat.{ℕ, zero, suc, _+_, _*_, _/_, _≤_, _<_}
 use native.Mathlib.Omega.{arith}
-use lib.ListN.{length, take, length-append}
+use lib.ListN.{length, length-append}
 use lib.IntN.{ℤ, pos}
 use lib.Dec.{eqb}
 use borrow.Author.Tests.{eqb-true}
@@ -11,7 +11,7 @@ use Rattle.fixed.proofs.Iters.{either-all}
 use Rattle.fixed.proofs.Lin.{sfits-lin}
 use Rattle.fixed.proofs.Wraps.{wrap16-fits}
 use Rattle.pages.specs.Page.{page, puts}
-use Rattle.pages.proofs.Pages.{puts-leaves, puts-used}
+use Rattle.pages.proofs.Pages.{Whole, whole-page as on-page}
 use Rattle.sheet_text.specs.Text.{lineOf}
 use Rattle.sheet_text.proofs.Short.{Small, AllSmall, all-more, line-count, line-one, lines-short}
 use Rattle.wav_file.specs.Bytes.{word16}
@@ -57,16 +57,5 @@ text-most s =
 
 -- so a page of that size holds it: of a count and a page of which the contract's equation is known, the first bytes, as many as the count says, are
 -- the text, and the count is within the page
-pub record Whole (s : List ℕ) (out bytes : List ℕ) (used : ℕ) : Type 0 where
-  pub put : page used bytes ≡ puts (wavText s) (page 0 out)
-  pub text : take used bytes ≡ wavText s
-  pub within : used ≤ length bytes
-
-pub whole-page : (s t out bytes : List ℕ) (used : ℕ) → s ≡ t → length out ≡ 229247 → page used bytes ≡ puts (wavText s) (page 0 out) → Whole t out bytes used
-whole-page s t out bytes used e l p =
-    let q : page used bytes ≡ puts (wavText t) (page 0 out) = rw e at p in
-    record {
-      put = q;
-      text = puts-leaves (wavText t) out bytes used q (omega (arith, text-most t));
-      within = puts-used (wavText t) out bytes used q;
-    }
+pub whole-page : (s t out bytes : List ℕ) (used : ℕ) → s ≡ t → length out ≡ 229247 → page used bytes ≡ puts (wavText s) (page 0 out) → Whole (wavText t) out bytes used
+whole-page s t out bytes used e l p = on-page wavText s t out bytes used e (omega (arith, text-most t)) p

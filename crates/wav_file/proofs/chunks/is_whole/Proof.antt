@@ -1,4 +1,4 @@
--- `wav_file::chunks::is_whole` meets its contract: what is left behind the head is compared with the length. Assumes nothing.
+-- `wav_file::chunks::is_whole` meets its contract: what head and content need is compared with what is left. Assumes nothing.
 use mathlib.Core.Path.{sym}
 use native.Mathlib.Omega.{arith}
 use denote.Ref.{now}
