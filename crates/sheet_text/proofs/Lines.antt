@@ -1,13 +1,14 @@
 -- Lines of text, part after part. Assumes nothing.
 use mathlib.Core.Path.{_≡_, refl, sym, ap, _∙_}
 use mathlib.Core.List.{List, [], _∷_, _++_}
-use Prim.Native.Nat.{ℕ, _+_, _%_, _<_}
+use Prim.Native.Nat.{ℕ, _+_, _%_, _≤_, _<_}
+use native.Mathlib.Omega.{arith}
 use native.Mathlib.Numerals.{add-one}
 use lib.ListN.{length, drop, getD}
 use lib.Seq.{drop-cons, drop-length}
 use lib.IntN.{ℤ, pos}
 use borrow.Author.Tests.{eq-eqb, ne-eqb}
-use Rattle.pages.specs.Page.{Page, put, puts}
+use Rattle.pages.specs.Page.{Page, page, put, puts}
 use Rattle.sheet_text.specs.Text.{lineOf, spaced, sectionText, sheetText, afterPulse, pulseLines, answerWord, seedWord, acceptedText, answerText}
 use Rattle.pages.specs.Decimal.{decimal, digits}
 use Rattle.pages.proofs.Pages.{puts-append, puts-one}
@@ -43,6 +44,34 @@ pulses-more n i zs p h = rw (drop-cons zs i (pos 0) h, add-one i) (puts-append (
 pub pulses-done : (n i : ℕ) (zs : List ℤ) (p : Page) → i ≡ length zs → puts (pulseLines n i (drop i zs)) p ≡ p
 unfolding pulseLines puts
 pulses-done n i zs p e = rw (e, drop-length zs)
+
+-- ---- a loop over a row of any width that has come to value i: what is left to print completes the text, on a page as long as it was
+pub record Printing (out₀ : List ℕ) (used : ℕ) (zs : List ℤ) (out : List ℕ) (m i : ℕ) : Type 0 where
+  pub upTo : i ≤ length zs
+  pub long : length out ≡ length out₀
+  pub rest : puts (pulseLines (length zs) 0 zs) (page used out₀) ≡ puts (pulseLines (length zs) i (drop i zs)) (page m out)
+
+pub printing-start : (out : List ℕ) (used : ℕ) (zs : List ℤ) → Printing out used zs out used 0
+printing-start out used zs = record { upTo = omega arith; long = refl; rest = refl }
+
+-- one value more
+pub printing-next : {out₀ : List ℕ} {used : ℕ} {zs : List ℤ} {out : List ℕ} {m i : ℕ} (to : List ℕ) (k : ℕ)
+    → Printing out₀ used zs out m i
+    → i < length zs
+    → length to ≡ length out
+    → page k to ≡ put (afterPulse (length zs) i) (puts (decimal (getD zs i (pos 0))) (page m out))
+    → Printing out₀ used zs to k (i + 1)
+printing-next {zs = zs} {out = out} {m = m} {i = i} to k p h l e =
+    record {
+      upTo = omega arith;
+      long = l ∙ p .long;
+      rest = p .rest ∙ pulses-more (length zs) i zs (page m out) h ∙ ap (puts (pulseLines (length zs) (i + 1) (drop (i + 1) zs))) (sym e);
+    }
+
+-- all of them
+pub printing-done : {out₀ : List ℕ} {used : ℕ} {zs : List ℤ} {out : List ℕ} {m i : ℕ} → Printing out₀ used zs out m i → i ≡ length zs
+    → page m out ≡ puts (pulseLines (length zs) 0 zs) (page used out₀)
+printing-done {zs = zs} {out = out} {m = m} {i = i} p e = sym (p .rest ∙ pulses-done (length zs) i zs (page m out) e)
 
 -- the two answers
 pub accepted-puts : (number : ℕ) (seed : ℤ) (pulses : List ℤ) (p : Page) → number ≡ 0

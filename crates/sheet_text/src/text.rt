@@ -4,7 +4,8 @@ ghost use mathlib.Core.Path.{_≡_};
 ghost use Prim.Native.Nat.{_<_};
 ghost use lib.IntN.{pos};
 ghost use lib.ListN.{length};
-ghost use Rattle.pages.specs.Page.{page, puts};
+ghost use Rattle.pages.specs.Page.{page, put, puts};
+ghost use Rattle.pages.specs.Decimal.{decimal};
 ghost use Rattle.sheet_text.specs.Text.{lineOf, afterPulse, pulseLines, answerText, faultText};
 use pages::page;
 
@@ -39,6 +40,15 @@ fn after_pulse(n: usize, i: usize) -> u8
     }
 }
 
+// Value i of n, and what follows it.
+fn one_value(out: &mut [u8], used: usize, n: usize, i: usize, z: i32) -> usize
+    requires { ⌜ i < n ⌝ }
+    ensures { λ r. ⌜ page r (now (out .exit)) ≡ put (afterPulse n i) (puts (decimal z) (page used (now (out .entry)))) ⌝ }
+{
+    let k = page::decimal(out, used, z);
+    page::put(out, k, after_pulse(n, i))
+}
+
 // The pulses, twenty to a line with one space between.
 fn pulse_lines(out: &mut [u8], used: usize, pulses: &[i8]) -> usize
     ensures { λ r. ⌜ page r (now (out .exit)) ≡ puts (pulseLines (length (now (pulses .entry))) 0 (now (pulses .entry))) (page used (now (out .entry))) ⌝ }
@@ -46,8 +56,7 @@ fn pulse_lines(out: &mut [u8], used: usize, pulses: &[i8]) -> usize
     let n = pulses.len();
     let mut m = used;
     for i in 0..n {
-        let k = page::decimal(out, m, pulses[i] as i32);
-        m = page::put(out, k, after_pulse(n, i));
+        m = one_value(out, m, n, i, pulses[i] as i32);
     }
     m
 }
@@ -59,8 +68,7 @@ pub fn value_lines(out: &mut [u8], used: usize, values: &[i32]) -> usize
     let n = values.len();
     let mut m = used;
     for i in 0..n {
-        let k = page::decimal(out, m, values[i]);
-        m = page::put(out, k, after_pulse(n, i));
+        m = one_value(out, m, n, i, values[i]);
     }
     m
 }
@@ -72,8 +80,7 @@ pub fn sample_lines(out: &mut [u8], used: usize, samples: &[i16]) -> usize
     let n = samples.len();
     let mut m = used;
     for i in 0..n {
-        let k = page::decimal(out, m, samples[i] as i32);
-        m = page::put(out, k, after_pulse(n, i));
+        m = one_value(out, m, n, i, samples[i] as i32);
     }
     m
 }

@@ -8,13 +8,13 @@ use lib.ListN.{length, List·getD-eq-default}
 use lib.Dec.{eqb}
 use borrow.Author.Tests.{lt-ltb, le-ltb, eq-eqb, ne-eqb}
 use Rattle.fixed.specs.Iter.{either}
-use Rattle.wav_file.specs.Bytes.{byte, word32, named}
+use Rattle.wav_file.specs.Bytes.{byte, named}
 use Rattle.wav_file.specs.Riff.{sizeAt, isFormat, isData, chunks, first}
 use Rattle.wav_file.specs.Find.{formatAt, dataAt, otherSound, tooLong, notWave, runsPast, noFormat, otherFormat, noData, oddData, table, answerOf, accepted, refused, found}
-use Rattle.wav_file.specs.Marks.{marksOf}
+use Rattle.wav_file.specs.Marks.{marksOf, formatAnswer, dataAnswer}
 use Rattle.wav_file.specs.declared.chunks.Marks.{Marks}
 use Rattle.wav_file.proofs.Firsts.{clash, first-hit}
-use Rattle.wav_file.proofs.Part.{all-whole}
+use Rattle.wav_file.proofs.Part.{all-whole, format-is, data-is}
 use Rattle.wav_file.proofs.Going.{whole-le}
 
 -- ---- 1 and 2
@@ -47,12 +47,12 @@ too-short f h = rw (List·getD-eq-default f 0 {n = 11} (omega arith)) (turn (nam
     turn false b c d = refl
 
 -- ---- 3 to 7, by what the walk hands on
-record Marked (f : List ℕ) (m : Marks) : Type 0 where
+pub record Marked (f : List ℕ) (m : Marks) : Type 0 where
   pub no3 : runsPast f ≡ false
   pub format : m .format ≡ formatAt f
   pub body : m .body ≡ dataAt f
 
-marked : (f : List ℕ) (m : Marks) → m ≡ marksOf f → m .past ≡ false → Marked f m
+pub marked : (f : List ℕ) (m : Marks) → m ≡ marksOf f → m .past ≡ false → Marked f m
 unfolding marksOf
 marked f m e p = turn (runsPast f) refl e
   where
@@ -60,7 +60,7 @@ marked f m e p = turn (runsPast f) refl e
     turn true q e = absurd (clash true refl (sym (ap (λ (x : Marks). x .past) e) ∙ p))
     turn false q e = record { no3 = q; format = ap (λ (x : Marks). x .format) e; body = ap (λ (x : Marks). x .body) e }
 
-runs : (f : List ℕ) (m : Marks) → m ≡ marksOf f → m .past ≡ true → runsPast f ≡ true
+pub runs : (f : List ℕ) (m : Marks) → m ≡ marksOf f → m .past ≡ true → runsPast f ≡ true
 unfolding marksOf
 runs f m e p = turn (runsPast f) refl e
   where
@@ -75,13 +75,13 @@ positive n h = omega arith
 first-fits : (t : ℕ → Bool) (f : List ℕ) → runsPast f ≡ false → 0 < first t (chunks f) → first t (chunks f) + 8 + sizeAt f (first t (chunks f)) ≤ length f
 first-fits t f h k = whole-le f (first t (chunks f)) (all-whole f h (first t (chunks f)) (first-hit t (chunks f) k .0))
 
-format-at-fits : (f : List ℕ) → runsPast f ≡ false → 0 < formatAt f → formatAt f + 8 + sizeAt f (formatAt f) ≤ length f
+pub format-at-fits : (f : List ℕ) → runsPast f ≡ false → (formatAt f ≡ 0 → ⊥) → formatAt f + 8 + sizeAt f (formatAt f) ≤ length f
 unfolding formatAt
-format-at-fits f h k = first-fits (isFormat f) f h k
+format-at-fits f h k = first-fits (isFormat f) f h (positive (first (isFormat f) (chunks f)) k)
 
-data-at-fits : (f : List ℕ) → runsPast f ≡ false → 0 < dataAt f → dataAt f + 8 + sizeAt f (dataAt f) ≤ length f
+pub data-at-fits : (f : List ℕ) → runsPast f ≡ false → (dataAt f ≡ 0 → ⊥) → dataAt f + 8 + sizeAt f (dataAt f) ≤ length f
 unfolding dataAt
-data-at-fits f h k = first-fits (isData f) f h k
+data-at-fits f h k = first-fits (isData f) f h (positive (first (isData f) (chunks f)) k)
 
 -- the tests' values
 no-format-none : (f : List ℕ) → formatAt f ≡ 0 → noFormat f ≡ true
@@ -116,61 +116,78 @@ even-data : (f : List ℕ) → (dataAt f ≡ 0 → ⊥) → (sizeAt f (dataAt f)
 unfolding oddData
 even-data f n e = rw (has-data f n) (ne-eqb (sizeAt f (dataAt f) % 2) 1 e)
 
-module _ (f : List ℕ) (m : Marks) (short : length f ≤ 65536) (wave : notWave f ≡ false) (e : m ≡ marksOf f) where
-  pub give3 : m .past ≡ true → found f ≡ refused 3
+-- ---- 4 and 5
+pub format-none : (f : List ℕ) → formatAt f ≡ 0 → 4 ≡ formatAnswer f
+unfolding formatAnswer
+format-none f e = rw (no-format-none f e)
+
+pub format-short : (f : List ℕ) → (formatAt f ≡ 0 → ⊥) → sizeAt f (formatAt f) < 16 → 4 ≡ formatAnswer f
+unfolding formatAnswer
+format-short f n h = rw (no-format-short f n h)
+
+pub format-sound : (f : List ℕ) (b : Bool) → (formatAt f ≡ 0 → ⊥) → 16 ≤ sizeAt f (formatAt f) → otherSound f (formatAt f) ≡ b → either b 5 0 ≡ formatAnswer f
+unfolding formatAnswer
+format-sound f b n h e = rw (has-format f n h, sound-as f b (has-format f n h) e)
+
+-- ---- 6 and 7
+pub data-none : (f : List ℕ) → dataAt f ≡ 0 → 6 ≡ dataAnswer f
+unfolding dataAnswer
+data-none f e = rw (no-data f e)
+
+pub data-odd : (f : List ℕ) → (dataAt f ≡ 0 → ⊥) → sizeAt f (dataAt f) % 2 ≡ 1 → 7 ≡ dataAnswer f
+unfolding dataAnswer
+data-odd f n e = rw (has-data f n, odd-data f n e)
+
+pub data-even : (f : List ℕ) → (dataAt f ≡ 0 → ⊥) → (sizeAt f (dataAt f) % 2 ≡ 1 → ⊥) → 0 ≡ dataAnswer f
+unfolding dataAnswer
+data-even f n e = rw (has-data f n, even-data f n e)
+
+-- ---- 3 to 7, one after the other
+abbrev low : Bool → Bool → ℕ
+low a b = either a 4 (either b 5 0)
+
+abbrev high : Bool → Bool → ℕ
+high c d = either c 6 (either d 7 0)
+
+halves : (a b c d : Bool) → either a 4 (either b 5 (high c d)) ≡ either (eqb (low a b) 0) (high c d) (low a b)
+halves true b c d = refl
+halves false true c d = refl
+halves false false c d = refl
+
+module _ (f : List ℕ) (short : length f ≤ 65536) (wave : notWave f ≡ false) where
+  pub give3 : runsPast f ≡ true → found f ≡ refused 3
   unfolding found answerOf table
-  give3 p = rw (not-long f short, wave, runs f m e p)
+  give3 p = rw (not-long f short, wave, p)
 
-  module _ (p : m .past ≡ false) where
-    k : Marked f m
-    k = marked f m e p
+  module _ (inside : runsPast f ≡ false) where
+    rest : answerOf f ≡ either (eqb (formatAnswer f) 0) (dataAnswer f) (formatAnswer f)
+    unfolding answerOf table formatAnswer dataAnswer
+    rest = rw (not-long f short, wave, inside) (halves (noFormat f) (otherFormat f) (noData f) (oddData f))
 
-    give4 : noFormat f ≡ true → found f ≡ refused 4
-    unfolding found answerOf table
-    give4 n = rw (not-long f short, wave, k .no3, n)
+    pub give-format : (k : ℕ) → k ≡ formatAnswer f → (k ≡ 0 → ⊥) → found f ≡ refused k
+    unfolding found
+    give-format k e n = let a : answerOf f ≡ k = rest ∙ rw (← e, ne-eqb k 0 n) in rw (a, ne-eqb k 0 n)
 
-    pub give4-none : m .format ≡ 0 → found f ≡ refused 4
-    give4-none z = give4 (no-format-none f (sym (k .format) ∙ z))
+    pub give-data : formatAnswer f ≡ 0 → (k : ℕ) → k ≡ dataAnswer f → (k ≡ 0 → ⊥) → found f ≡ refused k
+    unfolding found
+    give-data z k e n = let a : answerOf f ≡ k = rest ∙ rw (z, ← e) in rw (a, ne-eqb k 0 n)
 
-    module _ (z : m .format ≡ 0 → ⊥) where
-      there : formatAt f ≡ 0 → ⊥
-      there q = z (k .format ∙ q)
+    pub give0 : formatAnswer f ≡ 0 → dataAnswer f ≡ 0 → found f ≡ accepted f
+    unfolding found
+    give0 z d = let a : answerOf f ≡ 0 = rest ∙ rw (z, d) in rw a
 
-      pub format-fits : m .format + 8 + sizeAt f (m .format) ≤ length f
-      format-fits = rw (k .format) (format-at-fits f (k .no3) (positive (formatAt f) there))
+-- ---- what is read of an accepted file lies in it
+answered-0 : (a b : Bool) (j k : ℕ) → 0 < j → either a j (either b k 0) ≡ 0 → a ≡ false
+answered-0 true b j k l e = absurd (omega arith)
+answered-0 false b j k l e = refl
 
-      pub give4-short : sizeAt f (m .format) < 16 → found f ≡ refused 4
-      give4-short s = give4 (no-format-short f there (rw (k .format) at s))
+pub format-room : (f : List ℕ) → runsPast f ≡ false → formatAnswer f ≡ 0 → formatAt f + 24 ≤ length f
+unfolding formatAnswer
+format-room f h e =
+    let d = format-is f (answered-0 (noFormat f) (otherFormat f) 4 5 (omega arith) e) in
+    omega (arith, d .size, whole-le f (formatAt f) (all-whole f h (formatAt f) (d .within)))
 
-      module _ (s : 16 ≤ sizeAt f (m .format)) where
-        n4 : noFormat f ≡ false
-        n4 = has-format f there (rw (k .format) at s)
-
-        sound : (b : Bool) → otherSound f (m .format) ≡ b → otherFormat f ≡ b
-        sound b o = sound-as f b n4 (rw (k .format) at o)
-
-        pub give5 : otherSound f (m .format) ≡ true → found f ≡ refused 5
-        unfolding found answerOf table
-        give5 o = rw (not-long f short, wave, k .no3, n4, sound true o)
-
-        module _ (o : otherSound f (m .format) ≡ false) where
-          pub give6 : m .body ≡ 0 → found f ≡ refused 6
-          unfolding found answerOf table
-          give6 b = rw (not-long f short, wave, k .no3, n4, sound false o, no-data f (sym (k .body) ∙ b))
-
-          module _ (b : m .body ≡ 0 → ⊥) where
-            held : dataAt f ≡ 0 → ⊥
-            held q = b (k .body ∙ q)
-
-            pub body-fits : m .body + 8 + sizeAt f (m .body) ≤ length f
-            body-fits = rw (k .body) (data-at-fits f (k .no3) (positive (dataAt f) held))
-
-            pub give7 : sizeAt f (m .body) % 2 ≡ 1 → found f ≡ refused 7
-            unfolding found answerOf table
-            give7 d = rw (not-long f short, wave, k .no3, n4, sound false o, has-data f held, odd-data f held (rw (k .body) at d))
-
-            pub give0 : (sizeAt f (m .body) % 2 ≡ 1 → ⊥)
-                → found f ≡ record { answer = 0; start = m .body + 8; length = sizeAt f (m .body); rate = word32 f (m .format + 12) }
-            unfolding found answerOf table accepted
-            give0 d =
-                rw (not-long f short, wave, k .no3, n4, sound false o, has-data f held, even-data f held (rw (k .body) at d), ← (k .format), ← (k .body))
+pub data-room : (f : List ℕ) → runsPast f ≡ false → dataAnswer f ≡ 0 → dataAt f + 8 + sizeAt f (dataAt f) ≤ length f
+unfolding dataAnswer
+data-room f h e =
+    whole-le f (dataAt f) (all-whole f h (dataAt f) (data-is f (answered-0 (noData f) (oddData f) 6 7 (omega arith) e) .0))

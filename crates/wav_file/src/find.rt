@@ -2,8 +2,8 @@
 ghost use mathlib.Core.Path.{_≡_};
 ghost use mathlib.Core.Bool.{false};
 ghost use Prim.Native.Nat.{_+_, _≤_};
-ghost use Rattle.wav_file.specs.Find.{rateAllowed, otherSound, notWave, refused as refusedWith, found, part as partBy, partOf};
-ghost use Rattle.wav_file.specs.Marks.{marksOf};
+ghost use Rattle.wav_file.specs.Find.{formatAt, dataAt, rateAllowed, otherSound, notWave, runsPast, refused as refusedWith, found, part as partBy, partOf};
+ghost use Rattle.wav_file.specs.Marks.{marksOf, formatAnswer, dataAnswer};
 use crate::bytes;
 use crate::chunks;
 use chunks::Marks;
@@ -69,6 +69,40 @@ fn other_sound(file: &[u8], at: usize) -> bool
     bytes::word16(file, at + 22) != 16
 }
 
+// 4 or 5 by the first `fmt `, whose place the walk handed on; else 0.
+fn format_answer(file: &[u8], format: usize) -> u32
+    requires whole { ⌜ runsPast (now file) ≡ false ⌝ }
+    requires place { ⌜ format ≡ formatAt (now file) ⌝ }
+    ensures { λ r. ⌜ r ≡ formatAnswer (now (file .entry)) ⌝ }
+{
+    if format == 0 {
+        return 4;
+    }
+    if chunks::size_at(file, format) < 16 {
+        return 4;
+    }
+    if other_sound(file, format) {
+        return 5;
+    }
+    0
+}
+
+// 6 or 7 by the first `data`; else 0.
+fn data_answer(file: &[u8], body: usize) -> u32
+    requires whole { ⌜ runsPast (now file) ≡ false ⌝ }
+    requires place { ⌜ body ≡ dataAt (now file) ⌝ }
+    ensures { λ r. ⌜ r ≡ dataAnswer (now (file .entry)) ⌝ }
+{
+    if body == 0 {
+        return 6;
+    }
+    let size = chunks::size_at(file, body);
+    if size % 2 == 1 {
+        return 7;
+    }
+    0
+}
+
 // The answer once the walk is over: 3 to 7, or accepted.
 fn judged(file: &[u8], m: Marks) -> Found
     requires short { do ⌜ (← ⟦file.len()⟧) ≤ 65536 ⌝ }
@@ -81,23 +115,16 @@ fn judged(file: &[u8], m: Marks) -> Found
         return refused(3);
     }
     let format = m.format;
-    if format == 0 {
-        return refused(4);
-    }
-    if chunks::size_at(file, format) < 16 {
-        return refused(4);
-    }
-    if other_sound(file, format) {
-        return refused(5);
+    let by_format = format_answer(file, format);
+    if by_format != 0 {
+        return refused(by_format);
     }
     let body = m.body;
-    if body == 0 {
-        return refused(6);
+    let by_data = data_answer(file, body);
+    if by_data != 0 {
+        return refused(by_data);
     }
     let size = chunks::size_at(file, body);
-    if size % 2 == 1 {
-        return refused(7);
-    }
     let rate = bytes::word32(file, format + 12);
     Found {
         answer: 0,

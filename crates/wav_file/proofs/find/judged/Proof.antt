@@ -1,9 +1,10 @@
--- `wav_file::find::judged` meets its contract: at each return the tests that led there give the number, by the laws of `Gives`. The places that the walk hands on lie in the file. Assumes nothing.
+-- `wav_file::find::judged` meets its contract: the numbers one after the other, by the laws of `Gives`. Assumes nothing.
 use mathlib.Core.Path.{sym, _∙_}
 use native.Mathlib.Omega.{arith}
 use denote.Ref.{now}
+use Rattle.wav_file.specs.Find.{accepted}
+use Rattle.wav_file.proofs.Gives.{marked, runs, give3, give-format, give-data, give0, format-room, data-room}
 use borrow.Author.Needs.{needs}
-use Rattle.wav_file.proofs.Gives.{give3, give4-none, give4-short, give5, give6, give7, give0, format-fits, body-fits}
 use Rattle.wav_file.proofs.find.judged.Statement.{statement}
 use Rattle.wav_file.proofs.find.judged.Tie as tie
 
@@ -14,7 +15,14 @@ returns : tie.Need-returns
 returns c =
     let t = c .before in
     let s = t .before .before in
-    c .refused .ensures ∙ sym (give3 (now (s .args .file)) (s .args .m) (s .pre .0) (s .pre .1 .0) (s .pre .1 .1) (t .if1 .taken))
+    let f = now (s .args .file) in
+    c .refused .ensures ∙ sym (give3 f (s .pre .0) (s .pre .1 .0) (runs f (s .args .m) (s .pre .1 .1) (t .if1 .taken)))
+
+format-answer-requires : tie.Need-format-answer-requires
+format-answer-requires c κs =
+    let s = c .before .before in
+    let k = marked (now (s .args .file)) (s .args .m) (s .pre .1 .1) (c .if1 .left) in
+    (k .no3, k .format)
 
 refused-requires-2 : tie.Need-refused-requires-2
 refused-requires-2 c κs = search needs
@@ -22,15 +30,18 @@ refused-requires-2 c κs = search needs
 returns-2 : tie.Need-returns-2
 returns-2 c =
     let t = c .before in
-    let e1 = t .before in
-    let s = e1 .before .before in
-    c .refused2 .ensures ∙ sym (give4-none (now (s .args .file)) (s .args .m) (s .pre .0) (s .pre .1 .0) (s .pre .1 .1) (e1 .if1 .left) (t .if2 .taken))
+    let q = t .before in
+    let s = q .before .before .before in
+    let f = now (s .args .file) in
+    let k = marked f (s .args .m) (s .pre .1 .1) (q .before .if1 .left) in
+    c .refused2 .ensures ∙ sym (give-format f (s .pre .0) (s .pre .1 .0) (k .no3) _ (q .format-answer .ensures) (t .if2 .taken))
 
-size-at-requires : tie.Need-size-at-requires
-size-at-requires c κs =
-    let e1 = c .before in
-    let s = e1 .before .before in
-    omega (arith, format-fits (now (s .args .file)) (s .args .m) (s .pre .0) (s .pre .1 .0) (s .pre .1 .1) (e1 .if1 .left) (c .if2 .left))
+data-answer-requires : tie.Need-data-answer-requires
+data-answer-requires c κs =
+    let q = c .before in
+    let s = q .before .before .before in
+    let k = marked (now (s .args .file)) (s .args .m) (s .pre .1 .1) (q .before .if1 .left) in
+    (k .no3, k .body)
 
 refused-requires-3 : tie.Need-refused-requires-3
 refused-requires-3 c κs = search needs
@@ -38,151 +49,61 @@ refused-requires-3 c κs = search needs
 returns-3 : tie.Need-returns-3
 returns-3 c =
     let t = c .before in
-    let z = t .before in
-    let e2 = z .before in
-    let e1 = e2 .before in
-    let s = e1 .before .before in
+    let p = t .before in
+    let q = p .before .before in
+    let s = q .before .before .before in
+    let f = now (s .args .file) in
+    let k = marked f (s .args .m) (s .pre .1 .1) (q .before .if1 .left) in
     c .refused3 .ensures
-    ∙ sym (give4-short (now (s .args .file)) (s .args .m) (s .pre .0) (s .pre .1 .0) (s .pre .1 .1) (e1 .if1 .left) (e2 .if2 .left) (rw (z .size-at .ensures .0) at (t .if3 .taken)))
+    ∙ sym (give-data f (s .pre .0) (s .pre .1 .0) (k .no3) (sym (q .format-answer .ensures) ∙ p .before .if2 .left) _ (p .data-answer .ensures) (t .if3 .taken))
 
-other-sound-requires : tie.Need-other-sound-requires
-other-sound-requires c κs =
-    let z = c .before in
-    let e2 = z .before in
-    let e1 = e2 .before in
-    let s = e1 .before .before in
-    omega (arith, c .if3 .left, z .size-at .ensures .0, format-fits (now (s .args .file)) (s .args .m) (s .pre .0) (s .pre .1 .0) (s .pre .1 .1) (e1 .if1 .left) (e2 .if2 .left))
-
-refused-requires-4 : tie.Need-refused-requires-4
-refused-requires-4 c κs = search needs
-
-returns-4 : tie.Need-returns-4
-returns-4 c =
-    let t = c .before in
-    let o = t .before in
-    let e3 = o .before in
-    let z = e3 .before in
-    let e2 = z .before in
-    let e1 = e2 .before in
-    let s = e1 .before .before in
-    c .refused4 .ensures
-    ∙ sym
-    (give5 (now (s .args .file)) (s .args .m) (s .pre .0) (s .pre .1 .0) (s .pre .1 .1) (e1 .if1 .left) (e2 .if2 .left) (rw (z .size-at .ensures .0) at (e3 .if3 .left))
-    (sym (o .other-sound .ensures) ∙ t .if4 .taken))
-
-refused-requires-5 : tie.Need-refused-requires-5
-refused-requires-5 c κs = search needs
-
-returns-5 : tie.Need-returns-5
-returns-5 c =
-    let t = c .before in
-    let e4 = t .before in
-    let o = e4 .before in
-    let e3 = o .before in
-    let z = e3 .before in
-    let e2 = z .before in
-    let e1 = e2 .before in
-    let s = e1 .before .before in
-    c .refused5 .ensures
-    ∙ sym
-    (give6 (now (s .args .file)) (s .args .m) (s .pre .0) (s .pre .1 .0) (s .pre .1 .1) (e1 .if1 .left) (e2 .if2 .left) (rw (z .size-at .ensures .0) at (e3 .if3 .left))
-    (sym (o .other-sound .ensures) ∙ e4 .if4 .left)
-    (t .if5 .taken))
-
-size-at-requires-2 : tie.Need-size-at-requires-2
-size-at-requires-2 c κs =
-    let e4 = c .before in
-    let o = e4 .before in
-    let e3 = o .before in
-    let z = e3 .before in
-    let e2 = z .before in
-    let e1 = e2 .before in
-    let s = e1 .before .before in
-    omega (
-      arith,
-      body-fits (now (s .args .file)) (s .args .m) (s .pre .0) (s .pre .1 .0) (s .pre .1 .1) (e1 .if1 .left) (e2 .if2 .left)
-          (rw (z .size-at .ensures .0) at (e3 .if3 .left))
-          (sym (o .other-sound .ensures) ∙ e4 .if4 .left)
-          (c .if5 .left),
-    )
-
-refused-requires-6 : tie.Need-refused-requires-6
-refused-requires-6 c κs = search needs
-
-returns-6 : tie.Need-returns-6
-returns-6 c =
-    let t = c .before in
-    let y = t .before in
-    let e5 = y .before in
-    let e4 = e5 .before in
-    let o = e4 .before in
-    let e3 = o .before in
-    let z = e3 .before in
-    let e2 = z .before in
-    let e1 = e2 .before in
-    let s = e1 .before .before in
-    c .refused6 .ensures
-    ∙ sym
-    (give7 (now (s .args .file)) (s .args .m) (s .pre .0) (s .pre .1 .0) (s .pre .1 .1) (e1 .if1 .left) (e2 .if2 .left) (rw (z .size-at .ensures .0) at (e3 .if3 .left))
-    (sym (o .other-sound .ensures) ∙ e4 .if4 .left)
-    (e5 .if5 .left)
-    (omega (arith, y .size-at2 .ensures .0, t .if6 .taken)))
+size-at-requires : tie.Need-size-at-requires
+size-at-requires c κs =
+    let p = c .before in
+    let q = p .before .before in
+    let s = q .before .before .before in
+    let f = now (s .args .file) in
+    let k = marked f (s .args .m) (s .pre .1 .1) (q .before .if1 .left) in
+    omega (arith, k .body, data-room f (k .no3) (sym (p .data-answer .ensures) ∙ c .if3 .left))
 
 add-word32 : tie.Need-add-word32
 add-word32 c =
-    let z = c .before .before .before .before .before .before in
-    let e2 = z .before in
-    let e1 = e2 .before in
-    let s = e1 .before .before in
-    omega (arith, s .pre .0, format-fits (now (s .args .file)) (s .args .m) (s .pre .0) (s .pre .1 .0) (s .pre .1 .1) (e1 .if1 .left) (e2 .if2 .left))
+    let p = c .before .before in
+    let q = p .before .before in
+    let s = q .before .before .before in
+    let f = now (s .args .file) in
+    let k = marked f (s .args .m) (s .pre .1 .1) (q .before .if1 .left) in
+    omega (arith, s .pre .0, k .format, format-room f (k .no3) (sym (q .format-answer .ensures) ∙ p .before .if2 .left))
 
 word32-requires : tie.Need-word32-requires
 word32-requires c κs =
-    let e3 = c .before .before .before .before .before in
-    let z = e3 .before in
-    let e2 = z .before in
-    let e1 = e2 .before in
-    let s = e1 .before .before in
-    omega
-    (arith, e3 .if3 .left, z .size-at .ensures .0, format-fits (now (s .args .file)) (s .args .m) (s .pre .0) (s .pre .1 .0) (s .pre .1 .1) (e1 .if1 .left) (e2 .if2 .left))
+    let p = c .before .before in
+    let q = p .before .before in
+    let s = q .before .before .before in
+    let f = now (s .args .file) in
+    let k = marked f (s .args .m) (s .pre .1 .1) (q .before .if1 .left) in
+    omega (arith, k .format, format-room f (k .no3) (sym (q .format-answer .ensures) ∙ p .before .if2 .left))
 
-add-t9 : tie.Need-add-t9
-add-t9 c =
-    let e5 = c .before .before .before in
-    let e4 = e5 .before in
-    let o = e4 .before in
-    let e3 = o .before in
-    let z = e3 .before in
-    let e2 = z .before in
-    let e1 = e2 .before in
-    let s = e1 .before .before in
-    omega (
-      arith,
-      s .pre .0,
-      body-fits (now (s .args .file)) (s .args .m) (s .pre .0) (s .pre .1 .0) (s .pre .1 .1) (e1 .if1 .left) (e2 .if2 .left)
-          (rw (z .size-at .ensures .0) at (e3 .if3 .left))
-          (sym (o .other-sound .ensures) ∙ e4 .if4 .left)
-          (e5 .if5 .left),
-    )
+add-t11 : tie.Need-add-t11
+add-t11 c =
+    let p = c .before .before .before in
+    let q = p .before .before in
+    let s = q .before .before .before in
+    let f = now (s .args .file) in
+    let k = marked f (s .args .m) (s .pre .1 .1) (q .before .if1 .left) in
+    omega (arith, s .pre .0, k .body, data-room f (k .no3) (sym (p .data-answer .ensures) ∙ c .before .before .if3 .left))
 
-returns-7 : tie.Need-returns-7
-returns-7 c =
-    let e6 = c .before in
-    let y = e6 .before in
-    let e5 = y .before in
-    let e4 = e5 .before in
-    let o = e4 .before in
-    let e3 = o .before in
-    let z = e3 .before in
-    let e2 = z .before in
-    let e1 = e2 .before in
-    let s = e1 .before .before in
-    rw (y .size-at2 .ensures .0, c .word32 .ensures)
-    (sym
-    (give0 (now (s .args .file)) (s .args .m) (s .pre .0) (s .pre .1 .0) (s .pre .1 .1) (e1 .if1 .left) (e2 .if2 .left) (rw (z .size-at .ensures .0) at (e3 .if3 .left))
-    (sym (o .other-sound .ensures) ∙ e4 .if4 .left)
-    (e5 .if5 .left)
-    (λ k. e6 .if6 .left (omega (arith, y .size-at2 .ensures .0)))))
+returns-4 : tie.Need-returns-4
+unfolding accepted
+returns-4 c =
+    let y = c .before in
+    let p = y .before .before in
+    let q = p .before .before in
+    let s = q .before .before .before in
+    let f = now (s .args .file) in
+    let k = marked f (s .args .m) (s .pre .1 .1) (q .before .if1 .left) in
+    rw (y .size-at .ensures .0, c .word32 .ensures, k .body, k .format)
+    (sym (give0 f (s .pre .0) (s .pre .1 .0) (k .no3) (sym (q .format-answer .ensures) ∙ p .before .if2 .left) (sym (p .data-answer .ensures) ∙ y .before .if3 .left)))
 
 pub judged-spec : {M : Type 1} → statement M
 judged-spec =
@@ -190,20 +111,14 @@ judged-spec =
     (tie.spec
     refused-requires
     returns
+    format-answer-requires
     refused-requires-2
     returns-2
-    size-at-requires
+    data-answer-requires
     refused-requires-3
     returns-3
-    other-sound-requires
-    refused-requires-4
-    returns-4
-    refused-requires-5
-    returns-5
-    size-at-requires-2
-    refused-requires-6
-    returns-6
+    size-at-requires
     add-word32
     word32-requires
-    add-t9
-    returns-7)
+    add-t11
+    returns-4)
