@@ -10,7 +10,7 @@ use path::structs::{Fix, Work};
 use steps::structs::Prior;
 
 // A subframe's paths, and the filtered history.
-#[derive(Drop)]
+#[derive(Clone, Copy)]
 pub struct Ready {
     pub work: Work,
     pub sLTP: [i16; 640],

@@ -7,7 +7,7 @@ use fixed::wrap;
 use levels::{level, lower};
 
 // Two levels, each with its own cost; all numbers are in Q10.
-#[derive(Drop)]
+#[derive(Clone, Copy)]
 pub struct Choice {
     pub first_level: i32,
     pub first_cost: i32,

@@ -16,7 +16,7 @@ use subframes::scalars;
 use tails::tail;
 
 // What an accepted call hands back beside its pulses.
-#[derive(Drop)]
+#[derive(Clone, Copy)]
 pub struct Handed {
     pub seed: i32,
     pub state: NsqState,

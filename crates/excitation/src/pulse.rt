@@ -9,7 +9,7 @@ use seeds::generator;
 use shifts::shift;
 
 // The value (Q23) of a pulse, and the generator's word after it.
-#[derive(Drop)]
+#[derive(Clone, Copy)]
 pub struct After {
     pub e_Q23: i32,
     pub seed: i32,

@@ -5,14 +5,14 @@ use fixed::wrap;
 use limits::count;
 
 // A number, and the byte after it: a space, a line feed, or `*`.
-#[derive(Drop)]
+#[derive(Clone, Copy)]
 pub struct Token {
     pub value: i32,
     pub end: u8,
 }
 
 // A number so many times, and the byte after it.
-#[derive(Drop)]
+#[derive(Clone, Copy)]
 pub struct Run {
     pub value: i32,
     pub times: usize,

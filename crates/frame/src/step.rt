@@ -14,7 +14,7 @@ use paths::subframe::silk_noise_shape_quantizer_del_dec as samples;
 use steps::structs::Prior;
 
 // A frame in work, but its rows: the paths, the filtered history, and the gain of the subframe before.
-#[derive(Drop)]
+#[derive(Clone, Copy)]
 pub struct Frame {
     pub work: Work,
     pub sLTP: [i16; 640],

@@ -1,2 +1,3 @@
 // What leaves at the decision delay (`silk_noise_shape_quantizer_del_dec` of NSQ_del_dec.rs).
+#![tactic(auto)]
 pub mod emission;

@@ -7,7 +7,7 @@ use products::product;
 use shifts::shift;
 
 // The lower and the upper level, and what |level| * Lambda is of each before the noise is added.
-#[derive(Drop)]
+#[derive(Clone, Copy)]
 pub struct Pair {
     pub q1: i32,
     pub rd1: i32,

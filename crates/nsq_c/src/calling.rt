@@ -11,7 +11,7 @@ use plain_rows::layout;
 use settings_row::named;
 
 // What a call gives beside its rows.
-#[derive(Drop)]
+#[derive(Clone, Copy)]
 pub struct Replied {
     // the number of docs/RULES.md, "Which number comes back"
     pub code: u32,

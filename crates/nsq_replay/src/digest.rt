@@ -3,7 +3,7 @@
 use program_words::bits;
 
 // The upper and the lower 32 bits.
-#[derive(Drop)]
+#[derive(Clone, Copy)]
 pub struct Sum {
     pub high: u32,
     pub low: u32,

@@ -5,14 +5,14 @@ use crate::input;
 use limits::count;
 
 // The first `count` words are the row's.
-#[derive(Drop)]
+#[derive(Clone, Copy)]
 pub struct Row32 {
     pub count: usize,
     pub words: [i32; 320],
 }
 
 // A row of 16-bit numbers.
-#[derive(Drop)]
+#[derive(Clone, Copy)]
 pub struct Row16 {
     pub count: usize,
     pub words: [i16; 320],

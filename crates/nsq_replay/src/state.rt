@@ -3,7 +3,7 @@ use crate::input;
 use silk::structs::NsqState;
 
 // A state, and the seed that the Rust's state holds beside it.
-#[derive(Drop)]
+#[derive(Clone, Copy)]
 pub struct Held {
     pub state: NsqState,
     pub rand_seed: i32,

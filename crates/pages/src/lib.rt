@@ -1,2 +1,4 @@
 // Bytes and numbers, appended to a lent buffer.
+#![tactic(auto)]
+
 pub mod page;

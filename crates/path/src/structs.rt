@@ -12,7 +12,7 @@ pub const PRED_Q15: usize = 3;
 pub const SHAPE_Q14: usize = 4;
 
 // `NSQ_del_dec_struct` without its long rows.
-#[derive(Drop)]
+#[derive(Clone, Copy)]
 pub struct Path {
     pub sAR2_Q14: [i32; 24],
     pub LF_AR_Q14: i32,
@@ -23,7 +23,7 @@ pub struct Path {
 }
 
 // `NSQ_sample_struct`: one of the two candidates of a path at a sample.
-#[derive(Drop)]
+#[derive(Clone, Copy)]
 pub struct Candidate {
     pub Q_Q10: i32,
     pub RD_Q10: i32,
@@ -35,7 +35,7 @@ pub struct Candidate {
 }
 
 // The scalars of a subframe.
-#[derive(Drop)]
+#[derive(Clone, Copy)]
 pub struct Fix {
     pub subfr_length: usize,
     pub predictLPCOrder: usize,
@@ -58,7 +58,7 @@ pub struct Fix {
 }
 
 // The words of a subframe of which only a half is read.
-#[derive(Drop)]
+#[derive(Clone, Copy)]
 pub struct Halves {
     pub warping_Q16: i32,
     pub Tilt_Q14: i32,
@@ -66,7 +66,7 @@ pub struct Halves {
 }
 
 // What all paths share at a sample.
-#[derive(Drop)]
+#[derive(Clone, Copy)]
 pub struct Common {
     pub x_Q10: i32,
     pub LTP_pred_Q14: i32,
@@ -74,21 +74,21 @@ pub struct Common {
 }
 
 // A path whose generator and shaping filter have moved on, and the filter's output.
-#[derive(Drop)]
+#[derive(Clone, Copy)]
 pub struct Moved {
     pub own: Path,
     pub n_AR_Q14: i32,
 }
 
 // The same of all paths.
-#[derive(Drop)]
+#[derive(Clone, Copy)]
 pub struct Moves {
     pub owns: [Path; 4],
     pub n_AR_Q14: [i32; 4],
 }
 
 // What a candidate is worked out from, but its level and its cost.
-#[derive(Drop)]
+#[derive(Clone, Copy)]
 pub struct Terms {
     pub x_Q10: i32,
     pub LTP_pred_Q14: i32,
@@ -99,7 +99,7 @@ pub struct Terms {
 }
 
 // Whether a path is replaced, which, and by which.
-#[derive(Drop)]
+#[derive(Clone, Copy)]
 pub struct Swap {
     pub yes: bool,
     pub to: usize,
@@ -107,7 +107,7 @@ pub struct Swap {
 }
 
 // What a sample leaves: the paths, and the words of the sample that is a decision delay old.
-#[derive(Drop)]
+#[derive(Clone, Copy)]
 pub struct Sampled {
     pub ps: [Path; 4],
     pub Q_Q10: i32,
@@ -117,7 +117,7 @@ pub struct Sampled {
 }
 
 // A subframe in work, but its rows.
-#[derive(Drop)]
+#[derive(Clone, Copy)]
 pub struct Work {
     pub ps: [Path; 4],
     pub smpl_buf_idx: usize,

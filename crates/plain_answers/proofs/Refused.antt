@@ -3,7 +3,7 @@ use Prim.Native.Nat.{ℕ, ◌*◌}
 use mathlib.Core.Path.{◌≡◌, refl}
 use mathlib.Core.Bool.{Bool, true, false, ◌||◌}
 use mathlib.Core.List.{List}
-use lib.IntN.{ℤ, pos}
+use lib.IntN.{ℤ}
 use Rattle.silk.specs.declared.structs.Settings.{Settings}
 use Rattle.limits.specs.Count.{nat_z}
 use Rattle.refusal_rules.specs.declared.answer.Sizes.{Sizes}

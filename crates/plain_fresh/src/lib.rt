@@ -1,2 +1,4 @@
 // A fresh state, as two plain rows.
+#![tactic(auto)]
+
 pub mod rows;

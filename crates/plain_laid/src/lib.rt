@@ -1,2 +1,3 @@
 // What comes of a call, laid into plain rows.
+#![tactic(auto)]
 pub mod laying;

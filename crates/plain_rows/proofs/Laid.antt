@@ -1,9 +1,9 @@
 -- Four parts laid one after the other into a row that they fill. Assumes nothing.
 use mathlib.Core.Path.{◌≡◌, refl, sym, ap, ◌∙◌}
 use mathlib.Core.List.{List, [], ◌∷◌, ◌++◌, append_assoc}
-use Prim.Native.Nat.{ℕ, zero, suc, ◌+◌, ◌-◌, ◌≤◌}
+use Prim.Native.Nat.{ℕ, ◌+◌}
 use native.Mathlib.Omega.{arith}
-use lib.ListN.{length, take, drop, length-append, length-drop, drop_of_length-le}
+use lib.ListN.{length, drop, length-append, length-drop}
 use lib.Seq.{take_at, drop_at}
 use lib.IntN.{ℤ}
 use borrow.Rule.Slice.PartMut.{put_mid, post_of}

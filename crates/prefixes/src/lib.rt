@@ -1,2 +1,3 @@
 // The first words of a row, lent on: a part of the row, not a copy.
+#![tactic(auto)]
 pub mod prefix;

@@ -1,7 +1,7 @@
 // What a call is answered, and the lengths of the rows that it lends.
 
 // Accepted, or why not, in the order of the numbers of docs/RULES.md: `code_of` gives them.
-#[derive(Drop)]
+#[derive(Clone, Copy)]
 pub enum Answer {
     Accepted,
     Lengths,
@@ -14,7 +14,7 @@ pub enum Answer {
 }
 
 // How long the rows are of which only the length decides. The rows of gains and of lags are looked into, so they are lent.
-#[derive(Drop)]
+#[derive(Clone, Copy)]
 pub struct Sizes {
     pub samples: usize,
     pub pred_coef: usize,

@@ -31,8 +31,8 @@ fn high_half(seed: i32) -> u32
 
 // The word of two halves, with its sign.
 fn joined(high: u32, low: u32) -> i32
-    requires fact_1 { high < 2 ^ 16 }
-    requires fact_2 { low < 2 ^ 16 }
+    requires high_fits { high < 2 ^ 16 }
+    requires low_fits { low < 2 ^ 16 }
     ensures { result ≡ joined_z high low }
 {
     ((high as i32) << 16) | (low as i32)

@@ -1,6 +1,7 @@
 // The program `sheet`: a call sheet on standard input, its answer on standard output (docs/RULES.md, "The call sheet"). It prints nothing more
 // and ends with status 0. The sizes of its buffer and of its page are those of the function that it calls, whose contract says that the bytes
 // written are the text of the bytes read, whole.
+#![tactic(auto)]
 use sheet_page::page;
 
 fn main() {

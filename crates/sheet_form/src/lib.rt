@@ -1,4 +1,6 @@
 // Call sheets (docs/RULES.md, "The call sheet"): reading one from bytes. The sections are for other sheets of the same form too.
+#![tactic(auto)]
+
 pub mod blank;
 mod number;
 pub mod rows;

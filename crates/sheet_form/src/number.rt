@@ -7,7 +7,7 @@ use sheet_words::words;
 use sheet_words::words::{Class, Word};
 
 // The number that was read, and the place after it.
-#[derive(Drop)]
+#[derive(Clone, Copy)]
 pub enum Number {
     Is(i64, usize),
     Unreadable,

@@ -12,21 +12,21 @@ use crate::rows::{Row16, Row32};
 use crate::{blank, number};
 
 // Where the next section starts, or the fault that was met.
-#[derive(Drop)]
+#[derive(Clone, Copy)]
 pub enum Place {
     At(usize),
     Fault(u32),
 }
 
 // A section that was read.
-#[derive(Drop)]
+#[derive(Clone, Copy)]
 pub struct Section {
     pub next: Place,
     pub row: Row32,
 }
 
 // A section of 16-bit numbers that was read.
-#[derive(Drop)]
+#[derive(Clone, Copy)]
 pub struct HalfSection {
     pub next: Place,
     pub row: Row16,

@@ -20,14 +20,14 @@ pub const MOST_BYTES: usize = 65536;
 pub const DEFAULT_PATHS: i32 = 2;
 
 // A sheet that can be read, or the number of its fault.
-#[derive(Drop)]
+#[derive(Clone, Copy)]
 pub enum Verdict {
     Good,
     Fault(u32),
 }
 
 // A sheet: its settings and its nine rows. Where it has a fault they are all 0 and empty.
-#[derive(Drop)]
+#[derive(Clone, Copy)]
 pub struct Sheet {
     pub verdict: Verdict,
     pub settings: Settings,

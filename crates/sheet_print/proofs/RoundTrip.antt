@@ -98,6 +98,8 @@ end_back k = refl
 sections-back : (kinds : List Kind) (rows : List (List ℤ)) (k : ℕ) → Narrows kinds → Allowing kinds rows → sections kinds k (10 ∷ sheet_text rows) ≡ sheet rows
 unfolding sections sheet_text or_fault after
 sections-back [] [] k none none = end_back k
+sections-back [] (zs ∷ rows) k _ x5 = elim x5 [ ]
+sections-back (kind ∷ kinds) [] k _ x6 = elim x6 [ ]
 sections-back (kind ∷ kinds) (zs ∷ rows) k (more c n f ns) (more a all) =
     rw (section-skip kind (section_text zs ++ sheet_text rows), section-back kind zs (sheet_text rows) c n a, sections-back kinds rows (suc k) ns all)
 
@@ -137,6 +139,8 @@ section-few kind zs c n f a =
 sheet-few : (kinds : List Kind) (rows : List (List ℤ)) → Narrows kinds → Allowing kinds rows → length (sheet_text rows) ≤ 3852 * length kinds
 unfolding sheet_text
 sheet-few [] [] none none = omega arith
+sheet-few [] (zs ∷ rows) _ x5 = elim x5 [ ]
+sheet-few (kind ∷ kinds) [] _ x6 = elim x6 [ ]
 sheet-few (kind ∷ kinds) (zs ∷ rows) (more c n f ns) (more a all) =
     omega (arith, length-append (section_text zs) (sheet_text rows), section-few kind zs c n f a, sheet-few kinds rows ns all)
 

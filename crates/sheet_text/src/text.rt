@@ -25,6 +25,7 @@ fn signed_line(out: &mut [u8], used: usize, word: &[u8], z: i32) -> usize
 }
 
 // What follows pulse i of n.
+#[tactic(auto, using(crate::proofs::Lines::twentieth))]
 fn after_pulse(n: usize, i: usize) -> u8
     requires { i < n }
     ensures { result ≡ after_pulse n i }

@@ -6,7 +6,7 @@ use Prim.Native.Nat.{ℕ, zero, suc, ◌+◌, ◌-◌, ◌*◌, ◌^◌, ◌≤�
 use native.Mathlib.Omega.{arith}
 use native.Mathlib.Numerals.{add-one}
 use native.Mathlib.Nat.{pow-le-pow_right, pow-succ', mul_assoc, lt_of_lt_of_le, le_trans, le_of_eq, mul-le-mul_right}
-use borrow.Author.Tests.{leb-true, eqb-true}
+use borrow.Author.Tests.{leb-true, eqb-true, le-leb, lt-leb}
 use lib.Dec.{lit<}
 use lib.ListN.{length, drop, get_or}
 use lib.Seq.{drop-cons, drop-length}
@@ -93,3 +93,8 @@ small-either false v h = tt
 pub magnitude-small : (ds : List ℕ) → Small (magnitude ds)
 unfolding magnitude
 magnitude-small ds = small-either (decimal ds) (value 0 ds) (λ e. value-small ds (decimal-is ds e))
+
+-- more than 10 digits can't be read
+pub too_many : (ds : List ℕ) → 10 < length ds → unreadable ≡ magnitude ds
+unfolding magnitude decimal
+too_many ds h = rw (le-leb 1 (length ds) (omega arith), lt-leb (length ds) 10 h)

@@ -4,7 +4,7 @@ ghost use Rattle.sheet_words.specs.Number.{run, decimal, value as value_n, magni
 ghost use Rattle.sheet_words.specs.Words.{in_class, Small, magnitude_found, word_found};
 
 // The sorts of bytes that a run is made of.
-#[derive(Drop)]
+#[derive(Clone, Copy)]
 pub enum Class {
     Separator,
     InWord,
@@ -12,14 +12,14 @@ pub enum Class {
 }
 
 // The value of the digits of a word.
-#[derive(Drop)]
+#[derive(Clone, Copy)]
 pub enum Magnitude {
     Is(u64),
     Unreadable,
 }
 
 // The number that a word writes.
-#[derive(Drop)]
+#[derive(Clone, Copy)]
 pub enum Word {
     Is(i64),
     Unreadable,
@@ -61,6 +61,7 @@ fn value(digits: &[u8]) -> u64
     sum
 }
 
+#[tactic(auto, using(crate::proofs::Values::too_many))]
 fn magnitude_of(digits: &[u8]) -> Magnitude
     ensures { magnitude_found result ≡ magnitude digits.now }
 {

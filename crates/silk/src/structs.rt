@@ -4,7 +4,7 @@ ghost use Rattle.silk.specs.State.{fresh_state};
 
 // What the Rust reads of `silk_encoder_state` and `SideInfoIndices`, and the two numbers that its call takes beside them:
 // the twelve settings of docs/RULES.md, in its order.
-#[derive(Drop)]
+#[derive(Clone, Copy)]
 pub struct Settings {
     pub subfr_length: i32,
     pub nb_subfr: i32,
@@ -22,7 +22,7 @@ pub struct Settings {
 
 // The words of `silk_nsq_state` that the quantiser names: the history of decoded samples and of shaping words, the
 // words of the two filters, and what one frame leaves for the next.
-#[derive(Drop)]
+#[derive(Clone, Copy)]
 pub struct NsqState {
     pub xq: [i16; NsqState::XQ_LEN],
     pub sLTP_shp_Q14: [i32; NsqState::LTP_SHP_LEN],

@@ -1,6 +1,6 @@
 -- What an accepted call hands out: as many pulses as the lent row has words, each of them and the seed within a byte, for every call whose lent row
 -- holds bytes. Assumes nothing.
-use Prim.Native.Nat.{ℕ, zero, suc, ◌+◌, ◌*◌, ◌%◌}
+use Prim.Native.Nat.{ℕ, zero, suc, ◌+◌, ◌-◌, ◌*◌, ◌%◌}
 use native.Mathlib.Omega.{arith}
 use native.Mathlib.Nat.{mod-lt}
 use mathlib.Core.Path.{◌≡◌, refl, ap, ◌∙◌}
@@ -17,7 +17,7 @@ use Rattle.fixed.specs.Row.{word}
 use Rattle.fixed.proofs.Iters.{iter-keeps, either-all}
 use Rattle.fixed.proofs.Wraps.{wrap8-fits}
 use Rattle.noise.specs.Output.{pulse_of}
-use Rattle.limits.specs.Count.{same_z}
+use Rattle.limits.specs.Count.{nat_z, same_z}
 use Rattle.word_steps.specs.Gains.{gain_adj_Q16}
 use Rattle.path.specs.declared.structs.Path.{Path}
 use Rattle.path.specs.declared.structs.Candidate.{Candidate}
@@ -25,7 +25,7 @@ use Rattle.path.specs.declared.structs.Fix.{Fix}
 use Rattle.path.specs.declared.structs.Halves.{Halves}
 use Rattle.path.specs.declared.structs.Moves.{Moves}
 use Rattle.path.specs.declared.structs.Common.{Common}
-use Rattle.path.specs.Data.{no_path, Paths, Running, Rows}
+use Rattle.path.specs.Data.{no_path, Paths, paths, Running, Rows}
 use Rattle.path.specs.Path.{moved}
 use Rattle.path.specs.Taken.{Whole, path_at, taken, taken_own}
 use Rattle.path.specs.Scaled.{scaled_path, scaled_own}
@@ -39,7 +39,7 @@ use Rattle.steps.specs.Turn.{took_from, took, put_at, put, turn}
 use Rattle.steps.specs.Subframe.{move_back, subframe}
 use Rattle.steps.specs.Scale.{scale_path_turn, scaled_paths, scaled}
 use Rattle.steps.specs.Call.{Call, length_of, count_of, paths_of}
-use Rattle.steps.specs.Begin.{zero_path, own_from, begin_turn, begun}
+use Rattle.steps.specs.Begin.{zero_path, zero_lpcs, zero_rings, own_from, start_lpc, start_rings, begin_turn, begun}
 use Rattle.steps.specs.Flush.{Outs, flush_at, flush_turn, flushed, raised_path, other_path, others_turn, others_raised}
 use Rattle.steps.specs.Frame.{Framed, Done, start_paths, start, flushed_run, middle_by, refilled, Whitened, whitened_of, whitened, regained, flushed_first, whitened_first, before, coded, step, turn_by, subframe_turn, run, ended_by, frame}
 use Rattle.steps.specs.Entry.{outcome, answered}
@@ -91,7 +91,19 @@ zero-seeds (suc n) (suc k) = zero-seeds n k
 
 start-seeds : (c : Call) → Seeds (start_paths c).owns
 unfolding start_paths begun
-start-seeds c = iter-keeps (λ j (p : Paths). Seeds p.owns) _ (paths_of c) (λ j l p h. seed-set p.owns j _ h (begin-seed _ _ _ _ j)) _ (zero-seeds 4)
+start-seeds c =
+    let s = c.state in
+    let seed = nat_z c.settings.Seed in
+    let turn =
+    begin_turn s.sAR2_Q14 s.sLF_AR_shp_Q14 s.sDiff_shp_Q14 seed (start_lpc s.sLPC_Q14) (start_rings (word s.sLTP_shp_Q14 (4 * length_of c - 1))) in
+    iter-keeps
+    (λ j (p : Paths). Seeds p.owns)
+    turn
+    (paths_of c)
+    (λ j l p h.
+    seed-set p.owns j (own_from s.sAR2_Q14 s.sLF_AR_shp_Q14 s.sDiff_shp_Q14 seed j) h (begin-seed s.sAR2_Q14 s.sLF_AR_shp_Q14 s.sDiff_shp_Q14 seed j))
+    (paths (replicate 4 zero_path) zero_lpcs zero_rings)
+    (zero-seeds 4)
 
 move-seeds : (f : Fix) (h : Halves) (ar : List ℤ) (o : List Path) → Seeds o → Seeds (moves f h ar o).owns
 unfolding moves moved

@@ -4,7 +4,7 @@ use refusal_rules::answer::Answer;
 use silk::structs::NsqState;
 
 // The settings of an accepted call, turned once into counts, and what they decide for the whole frame.
-#[derive(Drop)]
+#[derive(Clone, Copy)]
 pub struct Given {
     pub subfr_length: usize,
     pub nb_subfr: usize,
@@ -24,7 +24,7 @@ pub struct Given {
 }
 
 // What comes before a subframe's samples.
-#[derive(Drop)]
+#[derive(Clone, Copy)]
 pub struct Prior {
     // whether it is the second one to be rewhitened, and the gain of the flush
     pub again: bool,
@@ -35,7 +35,7 @@ pub struct Prior {
 }
 
 // What a call hands back beside its pulses.
-#[derive(Drop)]
+#[derive(Clone, Copy)]
 pub struct Answered {
     pub answer: Answer,
     pub seed: i32,

@@ -1,2 +1,3 @@
 // The scalars of each subframe of a call.
+#![tactic(auto)]
 pub mod scalars;

@@ -1,6 +1,7 @@
 // The program `wav`: a WAV file on standard input, its rate and its samples on standard output, or the number of its refusal (docs/RULES.md, "Notes
 // from WAV files"). It prints nothing more and ends with status 0. The sizes of its buffer and of its page are those of the function that it calls,
 // whose contract says that the bytes written are the text of the bytes read, whole.
+#![tactic(auto)]
 use wav_page::page;
 
 fn main() {

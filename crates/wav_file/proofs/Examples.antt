@@ -92,7 +92,7 @@ not-wave = refl
 -- 3: one byte and seven bytes where a head should be; a `data` that runs past the end, also without a `fmt `, also with an odd length, also with the
 -- length 2^32 - 1; a length that would come round; after a short or a foreign `fmt `; a second `fmt ` that runs past the end; a chunk whose pad byte
 -- was forgotten, so that the walk goes on one byte late. A missing last pad byte is no fault: no `data` then, 6
-pub runs_past :
+pub runs-past :
     (row (riff (good 8000 (0 ∷ [])))
     ∷ row (riff (good 8000 (0 ∷ 0 ∷ 0 ∷ 0 ∷ 0 ∷ 0 ∷ 0 ∷ [])))
     ∷ row (riff (good 8000 (dat 4 (5 ∷ 6 ∷ []))))
@@ -108,7 +108,7 @@ pub runs_past :
     ∷ [])
     ≡ (no 3 ∷ no 3 ∷ no 3 ∷ no 3 ∷ no 3 ∷ no 3 ∷ no 3 ∷ no 3 ∷ no 3 ∷ no 3 ∷ no 3 ∷ no 6 ∷ [])
 unfolding word16 word32 named size_at is_format is_data whole after is_last chunks_from past_at format_at data_at rate_allowed other_sound too_long not_wave runs_past no_format other_format no_data odd_data table answer_of accepted found
-runs_past = refl
+runs-past = refl
 
 -- 4: no chunk at all; neither `fmt ` nor `data`; a short `fmt ` alone; `data` before `fmt `; a short `fmt ` before a good one; `FMT `; `fmt` and a
 -- zero; a good `fmt ` inside another chunk
@@ -147,9 +147,9 @@ other-formats = refl
 
 -- ---- the length of the file
 -- 1 is given exactly to the files of more than 65,536 bytes
-pub too_long : (f : List ℕ) → (answer_of f ≡ 1) ↔ (65536 < length f)
+pub too-long : (f : List ℕ) → (answer_of f ≡ 1) ↔ (65536 < length f)
 unfolding table too_long
-too_long f = (
+too-long f = (
   (λ e. ltb-true 65536 (length f) ((exactly-refused f 1 (omega arith) (omega arith)).0 e).0),
   (λ h. (exactly-refused f 1 (omega arith) (omega arith)).1 (lt-ltb 65536 (length f) h, (λ j l u. absurd (omega arith)))),
 )

@@ -126,7 +126,7 @@ next-in f p w k =
     (λ at h l. ((λ g. inl refl), (λ i. ⊎_elim (λ (e : p ≡ at). absurd (clash (is_last f at) l (subst (λ (x : ℕ). is_last f x ≡ false) e w))) (λ i. absurd i) i)))
     (λ at rest h l q. (
       (λ g. inl refl),
-      (λ i. ⊎_elim (λ (e : p ≡ at). inr (rw e (q.0 (subst (λ (x : ℕ). after f x < length f) e k)))) (λ (i : In p rest). inr (q.1 i)) i),
+      (λ i. ⊎_elim (λ (e : p ≡ at). inr (subst (λ (x : ℕ). In (after f x) rest) (sym e) (q.0 (subst (λ (x : ℕ). after f x < length f) e k)))) (λ (i : In p rest). inr (q.1 i)) i),
     ))
     ).1
 

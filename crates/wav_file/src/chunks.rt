@@ -7,7 +7,7 @@ ghost use Rattle.wav_file.specs.Marks.{marks_of, format_with};
 use crate::bytes;
 
 // What the walk has met: that a chunk runs past the end; or the places of the first `fmt ` and the first `data`, 0 for none.
-#[derive(Drop)]
+#[derive(Clone, Copy)]
 pub struct Marks {
     pub past: bool,
     pub format: usize,

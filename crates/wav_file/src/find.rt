@@ -1,5 +1,5 @@
 // Which part of a file is its samples.
-ghost use Rattle.std.specs.Prelude.{◌≡◌, false, ◌+◌, ◌≤◌};
+ghost use Rattle.std.specs.Prelude.{◌≡◌, false, ◌+◌, ◌≤◌, length, length as length_of};
 ghost use Rattle.wav_file.specs.Find.{format_at, data_at, rate_allowed, other_sound, not_wave, runs_past, refused as refused_with, found, part as part_by, part_of};
 ghost use Rattle.wav_file.specs.Marks.{marks_of, format_answer, data_answer};
 
@@ -8,7 +8,7 @@ use chunks::Marks;
 
 // The answer, 0 or the number of a refusal; the place of the part in the file, its length in bytes, and the samples a second. All three are 0
 // after a refusal.
-#[derive(Drop)]
+#[derive(Clone, Copy)]
 pub struct Found {
     pub answer: u32,
     pub start: usize,
@@ -53,7 +53,7 @@ fn rate_allowed(rate: u32) -> bool
 
 // Whether the `fmt ` at a place says something else than PCM, one channel, an allowed rate and 16 bits.
 fn other_sound(file: &[u8], at: usize) -> bool
-    requires* { do ⌜ at + 24 ≤ (← ⟦file.len()⟧) ⌝ }
+    requires { at + 24 ≤ length file.now }
     ensures { result ≡ other_sound file.now at }
 {
     if bytes::word16(file, at + 8) != 1 {
@@ -104,7 +104,7 @@ fn data_answer(file: &[u8], body: usize) -> u32
 
 // The answer once the walk is over: 3 to 7, or accepted.
 fn judged(file: &[u8], m: Marks) -> Found
-    requires* short { do ⌜ (← ⟦file.len()⟧) ≤ 65536 ⌝ }
+    requires short { length file.now ≤ 65536 }
     requires wave { not_wave file.now ≡ false }
     requires marks { m ≡ marks_of file.now }
     ensures { result ≡ found file.now }
@@ -149,7 +149,7 @@ pub fn find(file: &[u8]) -> Found
 
 // `length` bytes of the file from `start` on: no copy.
 fn cut(file: &[u8], start: usize, length: usize) -> &[u8]
-    requires* { do ⌜ start + length ≤ (← ⟦file.len()⟧) ⌝ }
+    requires { start + length ≤ length_of file.now }
     ensures { result.now ≡ part_by file.now start length }
 {
     &file[start..start + length]

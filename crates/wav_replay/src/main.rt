@@ -5,6 +5,7 @@
 // as it is left.
 //
 // The file `stdout` was not made by this program: a reference in Python made it. tests/stored_wav.py put both files together.
+#![tactic(auto)]
 use fixed::wrap;
 use limits::count;
 use sheet_text::text;
@@ -13,7 +14,7 @@ use sheet_words::words::Word;
 use wav_file::{find, samples};
 
 // What the next case is of. After the last one stands nothing.
-#[derive(Drop)]
+#[derive(Clone, Copy)]
 enum Case {
     File,
     Part,

@@ -1,0 +1,19 @@
+-- `calls::begin::start_paths` meets its contract. Assumes nothing.
+use mathlib.Core.Path.{◌≡◌, refl, ap, ◌∙◌}
+use Prim.Native.Nat.{◌≤◌, ◌-◌}
+use native.Mathlib.Omega.{arith}
+use mir.Syntax.{w32}
+use mir.Val.{to_z}
+use Rattle.fixed.proofs.Fit.{read}
+use Rattle.fixed.specs.Iter.{iter}
+use Rattle.fixed.proofs.Iters.{iter-more}
+use Rattle.path.specs.Data.{paths}
+use Rattle.steps.specs.Begin.{begun, begin_turn}
+use Rattle.std.proofs.Common.{rules}
+use Rattle.calls.proofs.begin.start_paths.Given as goal
+
+abbrev pub invariant-loop-k : goal.invariant-loop-k
+invariant-loop-k l = (l.k ≤ l.n) × (paths l.qs l.lpcs l.rings ≡ iter (begin_turn l.ar2 l.lf l.diff l.seed l.row l.ring) l.k (paths l.initial.qs l.initial.lpcs l.initial.rings))
+
+abbrev pub decreases-loop-k : goal.decreases-loop-k
+decreases-loop-k l = l.n - l.k

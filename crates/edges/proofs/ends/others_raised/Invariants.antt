@@ -1,0 +1,15 @@
+-- `edges::ends::others_raised` meets its contract. Assumes nothing.
+use mathlib.Core.Path.{◌≡◌}
+use Prim.Native.Nat.{◌≤◌, ◌-◌}
+use native.Mathlib.Omega.{arith}
+use Rattle.fixed.specs.Iter.{iter}
+use Rattle.fixed.proofs.Iters.{iter-more}
+use Rattle.steps.specs.Flush.{others_raised, others_turn}
+use Rattle.std.proofs.Common.{rules}
+use Rattle.edges.proofs.ends.others_raised.Given as goal
+
+abbrev pub invariant-loop-k : goal.invariant-loop-k
+invariant-loop-k l = (l.k ≤ l.n) × (l.qs ≡ iter (others_turn l.w) l.k l.initial.qs)
+
+abbrev pub decreases-loop-k : goal.decreases-loop-k
+decreases-loop-k l = l.n - l.k

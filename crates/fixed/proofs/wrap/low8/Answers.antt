@@ -1,0 +1,14 @@
+-- `fixed::wrap::low8` meets its contract. Assumes nothing.
+use mathlib.Core.Path.{◌∙◌, subst⁻¹}
+use mir.Facts.{to_z-of_z}
+use mir.Syntax.{w8}
+use mir.Val.{SFits}
+use Rattle.fixed.proofs.Wraps as W
+use Rattle.std.proofs.Common.{rules}
+use Rattle.fixed.proofs.wrap.low8.Goals as goal
+
+pub overflow_cast-result : goal.overflow_cast-result
+overflow_cast-result c = subst⁻¹ (SFits w8) (W.low8 c.ranges.x) (W.wrap8-fits c.args.x)
+
+pub returns : goal.returns
+returns c = to_z-of_z (overflow_cast-result c) ∙ W.low8 c.ranges.x

@@ -1,0 +1,14 @@
+-- `products::product::smlabb` meets its contract. Assumes nothing.
+use mathlib.Core.Path.{◌∙◌}
+use Rattle.fixed.proofs.Fit.{read, got32}
+use Rattle.products.specs.Product.{smlabb}
+use Rattle.std.proofs.Common.{rules}
+use Rattle.products.proofs.product.smlabb.Goals as goal
+
+pub returns : goal.returns
+unfolding smlabb
+returns c =
+    let f = c.ranges in
+    let e = rw (read f.a, read f.b) at c.smulbb.ensures in
+    got32 c.add32.result c.add32.type_inv
+    ∙ rw (read f.acc, got32 c.smulbb.result c.smulbb.type_inv, e) at c.add32.ensures

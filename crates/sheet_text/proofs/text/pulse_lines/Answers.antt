@@ -1,0 +1,18 @@
+-- `sheet_text::text::pulse_lines` meets its contract: the loop's invariant is `Printing`. Assumes nothing.
+use native.Mathlib.Omega.{arith}
+use lib.ListN.{get_or}
+use lib.IntN.{pos}
+use mir.Syntax.{w8}
+use mir.Val.{SFits}
+use Rattle.fixed.proofs.Fit.{read, fit8-32}
+use Rattle.sheet_text.proofs.Lines.{printing-next, printing-done}
+use Rattle.std.proofs.Common.{rules}
+use Rattle.sheet_text.proofs.text.pulse_lines.Goals as goal
+
+pub loop-i-preserved : goal.loop-i-preserved
+loop-i-preserved c =
+    let v : SFits w8 (get_or c.args.pulses.now c.loop-i.i (pos 0)) = search rules in
+    printing-next _ _ c.loop-i.invariant (omega arith) c.one_value-m.auto.out (rw (read v, read (fit8-32 v)) at c.one_value-m.ensures)
+
+pub returns : goal.returns
+returns c = printing-done c.loop-i.invariant (omega arith)

@@ -1,0 +1,18 @@
+-- `tails::tail::moved_down32` meets its contract. Assumes nothing.
+use mathlib.Core.Path.{◌≡◌}
+use Prim.Native.Nat.{◌+◌, ◌≤◌, ◌-◌}
+use native.Mathlib.Omega.{arith}
+use mir.Syntax.{w32}
+use Rattle.fixed.proofs.Fit.{back}
+use Rattle.fixed.specs.Iter.{iter}
+use Rattle.fixed.proofs.Iters.{iter-more}
+use Rattle.fixed.specs.Row.{word}
+use Rattle.word_steps.specs.Tail.{moved_down, down_turn}
+use Rattle.std.proofs.Common.{rules}
+use Rattle.tails.proofs.tail.moved_down32.Given as goal
+
+abbrev pub invariant-loop-j : goal.invariant-loop-j
+invariant-loop-j l = (l.j ≤ l.m) × (l.row ≡ iter (down_turn l.s) l.j l.initial.row)
+
+abbrev pub decreases-loop-j : goal.decreases-loop-j
+decreases-loop-j l = l.m - l.j

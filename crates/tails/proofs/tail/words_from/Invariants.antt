@@ -1,0 +1,18 @@
+-- `tails::tail::words_from` meets its contract. Assumes nothing.
+use mathlib.Core.Path.{◌≡◌}
+use Prim.Native.Nat.{◌+◌, ◌≤◌, ◌-◌}
+use native.Mathlib.Omega.{arith}
+use mir.Syntax.{w32}
+use Rattle.fixed.proofs.Fit.{back}
+use Rattle.fixed.specs.Iter.{iter}
+use Rattle.fixed.proofs.Iters.{iter-more}
+use Rattle.fixed.specs.Row.{word}
+use Rattle.word_steps.specs.Tail.{words_from, words_turn}
+use Rattle.std.proofs.Common.{rules}
+use Rattle.tails.proofs.tail.words_from.Given as goal
+
+abbrev pub invariant-loop-j : goal.invariant-loop-j
+invariant-loop-j l = (l.j ≤ 16) × (l.words ≡ iter (words_turn l.from l.a) l.j l.initial.words)
+
+abbrev pub decreases-loop-j : goal.decreases-loop-j
+decreases-loop-j l = 16 - l.j

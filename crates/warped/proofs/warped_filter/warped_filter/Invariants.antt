@@ -1,0 +1,26 @@
+-- `warped::warped_filter::warped_filter` meets its contract. Assumes nothing.
+use Prim.Native.Nat.{◌+◌, ◌-◌, ◌≤◌}
+use mathlib.Core.Path.{◌≡◌, ap, ◌∙◌}
+use mathlib.Core.List.{List}
+use lib.IntN.{ℤ, pos}
+use lib.ListN.{get_or}
+use native.Mathlib.Omega.{arith}
+use mir.Syntax.{w16, w32}
+use mir.Val.{to_z, of_z, SFits}
+use Rattle.fixed.specs.Iter.{iter}
+use Rattle.fixed.proofs.Iters.{iter-more}
+use Rattle.fixed.proofs.Fit.{read, got32, got16}
+use Rattle.warped.specs.WarpedFilter.{Filter, turn, write, begin, warped_filter}
+use Rattle.std.proofs.Common.{rules}
+use Rattle.warped.proofs.warped_filter.warped_filter.Given as goal
+
+-- the filter in work, as the code's locals hold it
+abbrev pub in_work : List ℤ → ℤ → ℤ → Filter
+in_work s tmp n = record { sAR2_Q14 = s; tmp = tmp; n_AR_Q14 = n }
+
+abbrev pub invariant-loop-j : goal.invariant-loop-j
+invariant-loop-j l = (l.j + 1 ≤ l.order)
+    × (in_work l.s l.tmp l.n ≡ iter (turn l.ar l.warping) l.j (begin l.initial.s l.order l.warping l.diff))
+
+abbrev pub decreases-loop-j : goal.decreases-loop-j
+decreases-loop-j l = l.order - l.j
