@@ -38,8 +38,8 @@ pub record Best {o : ℤ} {n len g e ψ : ℕ} {l : Ledger} {t : Running} (s : H
   pub least : (k : ℕ) → k < n → s.u b ≤ s.u k
   pub lives : s.living.alive b ≡ true
 
-pub best_of : {o : ℤ} {n len g e ψ : ℕ} {l : Ledger} {t : Running} (s : Held o n len g e ψ l t) → 0 < n → Best s (best_of t.core.ps.owns n)
-best_of {n = n} {t = t} s h =
+pub best-of : {o : ℤ} {n len g e ψ : ℕ} {l : Ledger} {t : Running} (s : Held o n len g e ψ l t) → 0 < n → Best s (best_of t.core.ps.owns n)
+best-of {n = n} {t = t} s h =
     let owns = t.core.ps.owns in
     let b = best_of owns n in
     let i : b < n = best-in owns n h in
@@ -141,7 +141,7 @@ pub held-middle : {o : ℤ} {n len : ℕ} {w : Ledger} (l d : ℕ) (gain : ℤ) 
     → Held o n len (2 * l) (2 * l - d) 0 w t → Held o n len (2 * l) (2 * l) 10 w (middle_by n l d gain t)
 held-middle {o} {n} {len} {w} l d gain t n0 n4 dl d40 ll l320 s =
     let b = best_of t.core.ps.owns n in
-    let bo = best_of s n0 in
+    let bo = best-of s n0 in
     let m = middle-is n l d gain t in
     let fl = flush-filled d s b bo.in-n bo.lives dl d40 ll l (fit_middle gain) in
     let out : (middle_by n l d gain t).pulses ≡ (flushed_run l d (fit_middle gain) (2 * l) b t).pulses = ap (λ (z : Outs). z.pulses) (middle n l d gain t).rows in

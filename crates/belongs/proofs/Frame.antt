@@ -40,7 +40,7 @@ use Rattle.belongs.proofs.Held.{Ledger, Exact, Held}
 use Rattle.belongs.proofs.Sampled.{ledger_next}
 use Rattle.belongs.proofs.Turn.{held-turn}
 use Rattle.belongs.proofs.Between.{held_back, held-white, held-regained}
-use Rattle.belongs.proofs.Flush.{held-middle, best_of, flush-filled}
+use Rattle.belongs.proofs.Flush.{held-middle, best-of, flush-filled}
 use Rattle.belongs.proofs.Start.{empty_ledger, start-held}
 
 -- ---- all that comes before the samples of a subframe
@@ -210,7 +210,7 @@ module _ (rule : Rule) (c : Call) (x out : List ℤ) (a : code_of (answered c x 
       let t = after rule c x out (count_of c) in
       let s : HeldTo (count_of c) = held_to (count_of c) (omega arith) in
       let b = best_of t.run.core.ps.owns (paths_of c) in
-      let bo = best_of s r.sound.paths1 in
+      let bo = best-of s r.sound.paths1 in
       let p = s.paths b bo.in-n in
       let n : length_of c ≤ len = omega (arith, subframe-within {k = 0} {n = count_of c} (length_of c) (omega (arith, r.sound.some))) in
       let f =

@@ -25,9 +25,9 @@ use Rattle.belongs.proofs.Pasts.{Heir, heir-some, heir-same, culled, culled-heir
 use Rattle.belongs.proofs.Costing.{Costing, Chose, still, next, costs, still-true, v-still, by-still, dead-swaps, dead_goes, costing-dead, costing-free}
 
 -- ---- words with the same bits
-same_word : {a b : ℤ} → SFits w32 a → SFits w32 b → same_word a b ≡ true → a ≡ b
+same-word : {a b : ℤ} → SFits w32 a → SFits w32 b → same_word a b ≡ true → a ≡ b
 unfolding same_word
-same_word {a} {b} f g e = sym (read f) ∙ ap (to_z w32) (eqb-true (of_z w32 a) (of_z w32 b) e) ∙ read g
+same-word {a} {b} f g e = sym (read f) ∙ ap (to_z w32) (eqb-true (of_z w32 a) (of_z w32 b) e) ∙ read g
 
 pub word_same : {a b : ℤ} → a ≡ b → same_word a b ≡ true
 unfolding same_word
@@ -124,7 +124,7 @@ module _ {F n t e ψ : ℕ} {u : ℕ → ℕ} {τ : ℕ → ℕ → ℤ} (enough
 
   spared-word : d ≤ t → (k : ℕ) → k < n → spared k ≡ true → τ k (t - d) ≡ τ v (t - d)
   spared-word q k h s =
-      same_word (fits k h (t - d) (omega arith)) (fits v c.v-in (t - d) (omega arith))
+      same-word (fits k h (t - d) (omega arith)) (fits v c.v-in (t - d) (omega arith))
       (ap (λ (z : ℤ). same_word (τ k (t - d)) z) (sym (m.late q v c.v-in)) ∙ spared-same q k h s)
 
   -- ---- so they agree in what is settled

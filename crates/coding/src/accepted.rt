@@ -141,15 +141,15 @@ pub fn coded(
     gains: &[i32],
     lags: &[i32],
 ) -> Handed
-    requires { Good s (sizes_of (call_at s state pred long ar harm tilt lf gains lags) x.now pulses.old) state.lagPrev state.prev_gain_Q16
+    requires { Good s (sizes_of (call_at s state pred.now long.now ar.now harm.now tilt.now lf.now gains.now lags.now) x.now pulses.old) state.lagPrev state.prev_gain_Q16
         gains.now lags.now }
     ensures words { done_of result.seed result.state pulses.new
         ≡ frame_z full_copy
-        (call_at s state pred.entry long.entry ar.entry harm.entry tilt.entry lf.entry gains.entry lags.entry)
+        (call_at s state pred.now long.now ar.now harm.now tilt.now lf.now gains.now lags.now)
         x.now pulses.old }
     ensures report { result.report
         ≡ pos (frame_report full_copy
-        (call_at s state pred.entry long.entry ar.entry harm.entry tilt.entry lf.entry gains.entry lags.entry)
+        (call_at s state pred.now long.now ar.now harm.now tilt.now lf.now gains.now lags.now)
         x.now pulses.old) }
 {
     let g = call::given_of(s, state.lagPrev, lags);

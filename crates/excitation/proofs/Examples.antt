@@ -4,7 +4,6 @@ use mathlib.Core.Path.{◌≡◌, refl}
 use mathlib.Core.List.{List, [], ◌∷◌}
 use lib.ListN.{replicate}
 use lib.IntN.{ℤ, pos, negsuc}
-use Rattle.fixed.specs.Row.{word}
 use Rattle.limits.specs.Tests.{outside}
 use Rattle.rfc6716.specs.Excitation.{offset_Q23, value, next_seed, negates, signed, seed_after, pulse, excitation}
 use Rattle.excitation.specs.declared.answer.Answer.TheVariants.{Accepted, Seeds, Kinds, Rows}

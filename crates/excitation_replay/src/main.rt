@@ -6,6 +6,7 @@
 // The file `stdout` was not made by this program: a reference written from the RFC's text made it, and for the coded frames the Rust itself,
 // a 64th of the excitation that it used inside. To repeat the first: tests/reference/excitation.py < crates/excitation_replay/stdin.
 #![tactic(auto)]
+
 mod input;
 mod print;
 mod rows;

@@ -42,14 +42,14 @@ pub fn step(
 ) -> Frame
     requires { ((Fits f × Room f) × ((pos 1 ≤ℤ t.prev) × (pos 1 ≤ℤ f.Gain_Q16)))
         × ((((f.decisionDelay ≤ 2 * f.subfr_length) × (2 * f.subfr_length ≤ length pulses.old)) × (t.work.smpl_buf_idx < 40))
-        × Supplied f a b ar x pulses) }
-    ensures words { (framed_at result lpc.exit ring.exit ltp.exit dgain.exit xq.exit shp.exit pulses.exit
-        ≡ step_by full_copy f (rows_at a.entry b.entry ar.entry h) x.now p
-        (framed_at t lpc.entry ring.entry ltp.entry dgain.entry xq.entry shp.entry pulses.entry))
+        × Supplied f a.now b.now ar.now x.now pulses.old) }
+    ensures words { (framed_at result lpc.new ring.new ltp.new dgain.new xq.new shp.new pulses.new
+        ≡ step_by full_copy f (rows_at a.now b.now ar.now h) x.now p
+        (framed_at t lpc.old ring.old ltp.old dgain.old xq.old shp.old pulses.old))
         × ((result.prev ≡ f.Gain_Q16) × (result.work.smpl_buf_idx < 40)) }
     ensures chosen { own.new
-        ≡ carry_step chosen full_copy f (rows_at a.entry b.entry ar.entry h) x.now p
-        (framed_at t lpc.entry ring.entry ltp.entry dgain.entry xq.entry shp.entry pulses.entry) own.old }
+        ≡ carry_step chosen full_copy f (rows_at a.now b.now ar.now h) x.now p
+        (framed_at t lpc.old ring.old ltp.old dgain.old xq.old shp.old pulses.old) own.old }
 {
     let w = t.work;
     let sltp = t.sLTP;

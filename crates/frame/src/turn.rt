@@ -55,15 +55,15 @@ fn stepped(
         × ((((f.decisionDelay ≤ 2 * f.subfr_length) × (2 * f.subfr_length ≤ length pulses.old)) × (t.work.smpl_buf_idx < 40))
         × (((from + 16 ≤ length pred.now) × (five + 5 ≤ length long.now))
         × ((shape + 24 ≤ length ar.now) × ((f.base + f.subfr_length ≤ length x.now) × (f.base + f.subfr_length ≤ length pulses.old))))) }
-    ensures words { (framed_at result lpc.exit ring.exit ltp.exit dgain.exit xq.exit shp.exit pulses.exit
+    ensures words { (framed_at result lpc.new ring.new ltp.new dgain.new xq.new shp.new pulses.new
         ≡ step_by full_copy f (rows (take 16 (drop from pred.now)) (take 5 (drop five long.now)) (take 24 (drop shape ar.now)) h)
         x.now p
-        (framed_at t lpc.entry ring.entry ltp.entry dgain.entry xq.entry shp.entry pulses.entry))
+        (framed_at t lpc.old ring.old ltp.old dgain.old xq.old shp.old pulses.old))
         × ((result.prev ≡ f.Gain_Q16) × (result.work.smpl_buf_idx < 40)) }
     ensures chosen { own.new
         ≡ carry_step chosen full_copy f (rows (take 16 (drop from pred.now)) (take 5 (drop five long.now)) (take 24 (drop shape ar.now)) h)
         x.now p
-        (framed_at t lpc.entry ring.entry ltp.entry dgain.entry xq.entry shp.entry pulses.entry) own.old }
+        (framed_at t lpc.old ring.old ltp.old dgain.old xq.old shp.old pulses.old) own.old }
 {
     step::step(
         t,
@@ -111,13 +111,13 @@ pub fn turn(
     requires { ((Sound g lags.now × Stocked g x.now pred.now long.now ar.now tilt.now harm.now lf.now gains.now lags.now)
         × ((k < g.nb_subfr) × (g.nb_subfr * g.subfr_length ≤ length pulses.old)))
         × ((pos 1 ≤ℤ t.prev) × (t.work.smpl_buf_idx < 40)) }
-    ensures words { (framed_at result lpc.exit ring.exit ltp.exit dgain.exit xq.exit shp.exit pulses.exit
+    ensures words { (framed_at result lpc.new ring.new ltp.new dgain.new xq.new shp.new pulses.new
         ≡ turn_by full_copy g x.now pred.now long.now ar.now tilt.now harm.now lf.now gains.now lags.now k
-        (framed_at t lpc.entry ring.entry ltp.entry dgain.entry xq.entry shp.entry pulses.entry))
+        (framed_at t lpc.old ring.old ltp.old dgain.old xq.old shp.old pulses.old))
         × ((pos 1 ≤ℤ result.prev) × (result.work.smpl_buf_idx < 40)) }
     ensures chosen { own.new
         ≡ carry_by chosen full_copy g x.now pred.now long.now ar.now tilt.now harm.now lf.now gains.now lags.now k
-        (framed_at t lpc.entry ring.entry ltp.entry dgain.entry xq.entry shp.entry pulses.entry) own.old }
+        (framed_at t lpc.old ring.old ltp.old dgain.old xq.old shp.old pulses.old) own.old }
 {
     let f = scalars::fix_of(g, lags, lf, gains, k);
     let h = scalars::halves_of(g, tilt, harm, k);

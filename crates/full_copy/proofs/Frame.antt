@@ -238,12 +238,12 @@ handed-win : (g : Given) (lag : ℤ) (words : List ℤ) (gain : ℤ) (p : Path) 
     → handed_out g lag words gain p s o ≡ handed_out g lag words gain p t o
 handed-win g lag words gain p s t o w = rw (left-win g lag words gain p s t o.xq o.sLTP_shp_Q14 w) refl
 
-ended_by : (g : Given) (last lag : ℤ) (words : List ℤ) (t : Framed) (owns : List Path) (w : ℕ) (gain : ℤ) (o : Outs)
+ended-by : (g : Given) (last lag : ℤ) (words : List ℤ) (t : Framed) (owns : List Path) (w : ℕ) (gain : ℤ) (o : Outs)
     → t.run.core.ps.owns ≡ owns → best_of owns g.nStates ≡ w → t.prev_gain_Q16 ≡ gain
     → flushed_run g.subfr_length g.delay (fit_last last) (g.nb_subfr * g.subfr_length) w t.run ≡ o
     → ended_by g last lag words t ≡ handed_out g lag words gain (get_or owns w no_path) (get_or t.run.core.ps.lpcs w []) o
 unfolding ended_by
-ended_by g last lag words t owns w gain o e b k f =
+ended-by g last lag words t owns w gain o e b k f =
     ap (λ (z : List Path).
     handed_out g lag words t.prev_gain_Q16 (get_or z (best_of z g.nStates) no_path) (get_or t.run.core.ps.lpcs (best_of z g.nStates) [])
     (flushed_run g.subfr_length g.delay (fit_last last) (g.nb_subfr * g.subfr_length) (best_of z g.nStates) t.run)) e
@@ -258,10 +258,10 @@ ended-win g last lag words t u n0 r =
     let owns = u.run.core.ps.owns in
     let w = best_of owns g.nStates in
     let o = flushed_run g.subfr_length g.delay (fit_last last) (g.nb_subfr * g.subfr_length) w u.run in
-    ended_by g last lag words t owns w u.prev_gain_Q16 o r.run.ps.owns refl r.gain
+    ended-by g last lag words t owns w u.prev_gain_Q16 o r.run.ps.owns refl r.gain
     (flush-win g.nStates g.subfr_length g.delay (fit_last last) (g.nb_subfr * g.subfr_length) w t.run u.run r.run)
     ∙ handed-win g lag words u.prev_gain_Q16 (get_or owns w no_path) _ _ o (r.run.ps.lpcs.at w (best-in owns g.nStates n0)).1
-    ∙ sym (ended_by g last lag words u owns w u.prev_gain_Q16 o refl refl refl refl)
+    ∙ sym (ended-by g last lag words u owns w u.prev_gain_Q16 o refl refl refl refl)
 
 -- ---- the whole frame
 pub frame-win : (r r' : Rule) → Copies r → Copies r' → (c : Call) (x out : List ℤ) → 0 < (given_of c).nStates → frame r c x out ≡ frame r' c x out

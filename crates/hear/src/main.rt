@@ -2,6 +2,7 @@
 // ends with status 0. One byte more than a sheet can have is read, so that a longer one is known by its length. The page has room for every
 // text (`hear-leaves` in `hear_text`), so all of it is written.
 #![tactic(auto)]
+
 use hear_text::hear;
 
 // The text of what was read, written from a lent page.

@@ -20,9 +20,9 @@ module _ (rule : Rule) (c : Call) (x out : List ℤ) where
   level_at h = level_in (at_sample rule c x out (h / length_of c) (suc (h % length_of c)))
 
   -- sample i of subframe k
-  pub level_in : (k i : ℕ) → i < length_of c → level_at (k * length_of c + i) ≡ level_in (at_sample rule c x out k (suc i))
+  pub level-in : (k i : ℕ) → i < length_of c → level_at (k * length_of c + i) ≡ level_in (at_sample rule c x out k (suc i))
   unfolding level_at
-  level_in k i h = let z = block_in k i (length_of c) h in rw (z.0, z.1) refl
+  level-in k i h = let z = block_in k i (length_of c) h in rw (z.0, z.1) refl
 
   -- the pulses of the first m levels
   pub pulse_row : ℕ → List ℤ

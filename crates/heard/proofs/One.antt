@@ -111,10 +111,10 @@ pub record SettledOne (F : Candidate → Type 0) (s s0 : ℤ) (r last : ℕ) (ri
 abbrev SettledFrom : (Candidate → Type 0) → ℕ → ℕ → Paths → Settled → Type 0
 SettledFrom F r last p z = SettledOne F (get_or p.owns 0 no_path).«Seed» (get_or p.owns 0 no_path).«SeedInit» r last p.rings z
 
-taken_own : (d : List (List Candidate)) (i r : ℕ) (p : Paths)
+taken-own : (d : List (List Candidate)) (i r : ℕ) (p : Paths)
     → (taken_all d 1 i r p).owns ≡ set p.owns 0 (taken_own (candidate_at d 0 0) (get_or p.owns 0 no_path))
 unfolding taken_all taken
-taken_own d i r p = refl
+taken-own d i r p = refl
 
 taken-rings : (d : List (List Candidate)) (i r : ℕ) (p : Paths)
     → (taken_all d 1 i r p).rings
@@ -130,7 +130,7 @@ module _ (F : Candidate → Type 0) where
       let own = get_or p.owns 0 no_path in
       let ring = get_or p.rings 0 [] in
       let a : get_or (taken_all d 1 i r p).owns 0 no_path ≡ taken_own c own =
-      ap (λ (z : List Path). get_or z 0 no_path) (taken_own d i r p) ∙ get_or-set_same p.owns 0 (taken_own c own) no_path h.own in
+      ap (λ (z : List Path). get_or z 0 no_path) (taken-own d i r p) ∙ get_or-set_same p.owns 0 (taken_own c own) no_path h.own in
       let b : get_or (taken_all d 1 i r p).rings 0 [] ≡ taken_rings c r (taken_own c own).«Seed» ring =
       ap (λ (z : List (List (List ℤ))). get_or z 0 []) (taken-rings d i r p) ∙ get_or-set_same p.rings 0 _ [] h.some in
       let t = rings-took c r (taken_own c own).«Seed» ring h.five in
@@ -139,7 +139,7 @@ module _ (F : Candidate → Type 0) where
         fair = k.row.0;
         there =
             record {
-              own = rw (taken_own d i r p, length-set) h.own;
+              own = rw (taken-own d i r p, length-set) h.own;
               some = rw (taken-rings d i r p, length-set) h.some;
               five = ap (λ (z : List (List ℤ)). length z) b ∙ t.five;
             };

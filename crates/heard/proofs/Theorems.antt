@@ -35,7 +35,7 @@ use Rattle.heard.proofs.Candidates.{Level}
 use Rattle.heard.proofs.Kept.{seeds}
 use Rattle.heard.proofs.Start.{given_seed}
 use Rattle.heard.proofs.Accepted.{kinds-in-range, seed-in-range}
-use Rattle.heard.proofs.Levels.{level_at, level_in, pulse_row, row-long, row-rounds}
+use Rattle.heard.proofs.Levels.{level_at, level-in, pulse_row, row-long, row-rounds}
 use Rattle.heard.proofs.Trace.{seed-at, sampled-at, handed_out}
 use Rattle.heard.proofs.Reader.{read_all}
 
@@ -58,7 +58,7 @@ module _ (rule : Rule) (c : Call) (x out : List ℤ) (e : code_of (answered c x 
       let p = block_of h (count_of c) (length_of c) (let z = (ready c x out e).sound.long in omega arith) q in
       let a = kinds-in-range c x out e in
       subst (λ (z : ℕ). Level (rfc_offset c *ℤ pos 4) (level_at rule c x out z)) p.1.1
-      (subst (Level (rfc_offset c *ℤ pos 4)) (sym (level_in rule c x out k i p.1.0))
+      (subst (Level (rfc_offset c *ℤ pos 4)) (sym (level-in rule c x out k i p.1.0))
       (subst (λ (z : ℤ). Level z (level_in (at_sample rule c x out k (suc i)))) (fix-offset c k ∙ offset-is-rfc _ _ a.0.most a.1.most)
       (sampled-at rule c x out e one fit k i p.0 p.1.0).level))
 
@@ -88,7 +88,7 @@ heard rule c x out e one fit k i p q =
     let h = k * length_of c + i in
     let o = handed_out rule c x out e one fit in
     ap (λ (z : ℤ). signed_excitation (rand z) (level_in (at_sample rule c x out k (suc i)))) (seed-at rule c x out e one fit k i p q)
-    ∙ ap (signed_excitation (rand (seeds (level_at rule c x out) (given_seed c) h))) (sym (level_in rule c x out k i q))
+    ∙ ap (signed_excitation (rand (seeds (level_at rule c x out) (given_seed c) h))) (sym (level-in rule c x out k i q))
     ∙ sym (row_read rule c x out e one fit h (let z = subframe-within (length_of c) p in omega arith))
     ∙ ap (λ (z : List ℤ). word (excitation (rfc_offset c) (nat_z c.settings.Seed) z).e_Q23 h *ℤ pos 64) (sym o.0)
     ∙ ap (λ (z : ℤ). word (excitation (rfc_offset c) (nat_z z) (outcome rule c x out).pulses).e_Q23 h *ℤ pos 64) (sym o.1)

@@ -31,7 +31,7 @@ use Rattle.heard.proofs.Kept.{seeds, Sampled, Kept, turn-sampled, turn-kept}
 use Rattle.heard.proofs.Between.{back-kept, best-one, flush-kept, before-kept}
 use Rattle.heard.proofs.Start.{given_seed, start-kept}
 use Rattle.heard.proofs.Accepted.{seed-in-range, delay-some, tabled, midway}
-use Rattle.heard.proofs.Levels.{level_at, level_in, pulse_row, row-long, row-rounds}
+use Rattle.heard.proofs.Levels.{level_at, level-in, pulse_row, row-long, row-rounds}
 
 -- how many paths subframe k has
 fix-paths : (c : Call) (k : ℕ) → (fix_of c k).nStates ≡ paths_of c
@@ -94,7 +94,7 @@ module _ (rule : Rule) (c : Call) (x out : List ℤ) (e : code_of (answered c x 
       subst (λ (z : Running). KeptIn rule c x out (k * length_of c + suc i) (out_at c k (suc i)) z) (sym n)
       (turn-kept rule (fix_of c k) (rows_of c k) x (tabled c x out e fit k) one (count_of c * length_of c) (row-rounds rule c x out (count_of c * length_of c))
       (delay-some c x out e) r.sound.delay40 b.late i (at_sample rule c x out k i)
-      (let a = subframe-within (length_of c) h in omega arith) (ap level_in (sym n) ∙ sym (level_in rule c x out k i l)) s)
+      (let a = subframe-within (length_of c) h in omega arith) (ap level_in (sym n) ∙ sym (level-in rule c x out k i l)) s)
 
   samples-at : (k : ℕ) → k < count_of c → At k 0 (at_sample rule c x out k 0) → (i : ℕ) → i ≤ length_of c → At k i (at_sample rule c x out k i)
   samples-at k h s zero l = s

@@ -59,9 +59,9 @@ pub fn silk_NSQ_del_dec(
     lags: &[i32],
 ) -> Answered
     ensures outcome { outcome_of result.answer result.seed result.state pulses.new
-        ≡ outcome keeps_first (call_at s state pred.entry long.entry ar.entry harm.entry tilt.entry lf.entry gains.entry lags.entry) x.now pulses.old }
+        ≡ outcome keeps_first (call_at s state pred.now long.now ar.now harm.now tilt.now lf.now gains.now lags.now) x.now pulses.old }
     ensures report { result.report
-        ≡ pos (report keeps_first (call_at s state pred.entry long.entry ar.entry harm.entry tilt.entry lf.entry gains.entry lags.entry) x.now pulses.old) }
+        ≡ pos (report keeps_first (call_at s state pred.now long.now ar.now harm.now tilt.now lf.now gains.now lags.now) x.now pulses.old) }
 {
     let z = sizes(x, pulses, pred, long, ar, harm, tilt, lf);
     let answer = check::check(s, z, state.lagPrev, state.prev_gain_Q16, gains, lags);

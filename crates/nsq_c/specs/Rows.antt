@@ -30,4 +30,4 @@ call_in settings samples words pred ltp ar harm tilt lf gains lags =
 -- .. from the rows as they are lent
 abbrev pub call_lent : Lent → Lent → Lent → Lent → Lent → Lent → Lent → Lent → Lent → Lent → Lent → Call
 call_lent settings samples words pred ltp ar harm tilt lf gains lags =
-    call_in settings.now samples.now words.now pred.now ltp.now ar.now harm.now tilt.now lf.now gains.now lags.now
+    call_in settings samples words pred ltp ar harm tilt lf gains lags

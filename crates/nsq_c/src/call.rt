@@ -25,7 +25,7 @@ pub extern "C" fn nsq_del_dec(
 ) -> u32
     ensures { left_of result settings.new samples.new words.new pulses.new
         ≡ called settings.old samples.old words.old
-        (call_lent settings.entry samples.entry words.entry pred.entry long.entry ar.entry harm.entry tilt.entry lf.entry gains.entry lags.entry)
+        (call_lent settings.old samples.old words.old pred.now long.now ar.now harm.now tilt.now lf.now gains.now lags.now)
         x.now pulses.old }
 {
     let r = calling::called(

@@ -47,10 +47,10 @@ pub fn called(
 ) -> Replied
     ensures rows { left_of result.code settings.new samples.new words.new pulses.new
         ≡ called_z settings.old samples.old words.old
-        (call_lent settings.entry samples.entry words.entry pred.entry long.entry ar.entry harm.entry tilt.entry lf.entry gains.entry lags.entry)
+        (call_lent settings.old samples.old words.old pred.now long.now ar.now harm.now tilt.now lf.now gains.now lags.now)
         x.now pulses.old }
     ensures report { result.report ≡ pos (report_in settings.old samples.old words.old
-        (call_lent settings.entry samples.entry words.entry pred.entry long.entry ar.entry harm.entry tilt.entry lf.entry gains.entry lags.entry)
+        (call_lent settings.old samples.old words.old pred.now long.now ar.now harm.now tilt.now lf.now gains.now lags.now)
         x.now pulses.old) }
 {
     if settings.len() != 12 {

@@ -28,7 +28,7 @@ pub extern "C" fn nsq_del_dec_report(
 ) -> u32
     ensures { reported_of (left_of result settings.new samples.new words.new pulses.new) report.new
         ≡ reported settings.old samples.old words.old
-        (call_lent settings.entry samples.entry words.entry pred.entry long.entry ar.entry harm.entry tilt.entry lf.entry gains.entry lags.entry)
+        (call_lent settings.old samples.old words.old pred.now long.now ar.now harm.now tilt.now lf.now gains.now lags.now)
         x.now pulses.old report.old }
 {
     if report.len() != 1 {

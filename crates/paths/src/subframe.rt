@@ -48,14 +48,14 @@ pub fn silk_noise_shape_quantizer_del_dec(
     f: Fix,
     h: Halves,
 ) -> Work
-    requires { (Fits f × (w.smpl_buf_idx < 40)) × Supplied f a b ar x pulses }
-    ensures words { (running_at result lpc.exit ring.exit ltp.exit dgain.exit xq.exit shp.exit pulses.exit
-        ≡ subframe_z full_copy f (rows_at a.entry b.entry ar.entry h) x.now
-        (running_at w lpc.entry ring.entry ltp.entry dgain.entry xq.entry shp.entry pulses.entry))
+    requires { (Fits f × (w.smpl_buf_idx < 40)) × Supplied f a.now b.now ar.now x.now pulses.old }
+    ensures words { (running_at result lpc.new ring.new ltp.new dgain.new xq.new shp.new pulses.new
+        ≡ subframe_z full_copy f (rows_at a.now b.now ar.now h) x.now
+        (running_at w lpc.old ring.old ltp.old dgain.old xq.old shp.old pulses.old))
         × (result.smpl_buf_idx < 40) }
     ensures chosen { own.new
-        ≡ carried_in chosen full_copy f (rows_at a.entry b.entry ar.entry h) x.now
-        (running_at w lpc.entry ring.entry ltp.entry dgain.entry xq.entry shp.entry pulses.entry) f.subfr_length own.old }
+        ≡ carried_in chosen full_copy f (rows_at a.now b.now ar.now h) x.now
+        (running_at w lpc.old ring.old ltp.old dgain.old xq.old shp.old pulses.old) f.subfr_length own.old }
 {
     let mut v = w;
     let l = f.subfr_length;

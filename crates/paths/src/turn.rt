@@ -31,14 +31,14 @@ pub fn turn(
     h: Halves,
     i: usize,
 ) -> Work
-    requires { (Fits f × (w.smpl_buf_idx < 40)) × ((i < f.subfr_length) × Supplied f a b ar x pulses) }
-    ensures words { (running_at result lpc.exit ring.exit ltp.exit dgain.exit xq.exit shp.exit pulses.exit
-        ≡ turn_z full_copy f (rows_at a.entry b.entry ar.entry h) x.now i
-        (running_at w lpc.entry ring.entry ltp.entry dgain.entry xq.entry shp.entry pulses.entry))
+    requires { (Fits f × (w.smpl_buf_idx < 40)) × ((i < f.subfr_length) × Supplied f a.now b.now ar.now x.now pulses.old) }
+    ensures words { (running_at result lpc.new ring.new ltp.new dgain.new xq.new shp.new pulses.new
+        ≡ turn_z full_copy f (rows_at a.now b.now ar.now h) x.now i
+        (running_at w lpc.old ring.old ltp.old dgain.old xq.old shp.old pulses.old))
         × (result.smpl_buf_idx < 40) }
     ensures chosen { own.new
-        ≡ carry_turn chosen full_copy f (rows_at a.entry b.entry ar.entry h) x.now i
-        (running_at w lpc.entry ring.entry ltp.entry dgain.entry xq.entry shp.entry pulses.entry) own.old }
+        ≡ carry_turn chosen full_copy f (rows_at a.now b.now ar.now h) x.now i
+        (running_at w lpc.old ring.old ltp.old dgain.old xq.old shp.old pulses.old) own.old }
 {
     let r0 = w.smpl_buf_idx;
     let r = ring::down(r0);

@@ -1,3 +1,4 @@
 // What comes of a call, laid into plain rows.
 #![tactic(auto)]
+
 pub mod laying;

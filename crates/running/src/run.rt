@@ -35,13 +35,13 @@ pub fn run(
     requires { ((Sound g lags.now × Stocked g x.now pred.now long.now ar.now tilt.now harm.now lf.now gains.now lags.now)
         × (g.nb_subfr * g.subfr_length ≤ length pulses.old))
         × ((pos 1 ≤ℤ t.prev) × (t.work.smpl_buf_idx < 40)) }
-    ensures words { (framed_at result lpc.exit ring.exit ltp.exit dgain.exit xq.exit shp.exit pulses.exit
+    ensures words { (framed_at result lpc.new ring.new ltp.new dgain.new xq.new shp.new pulses.new
         ≡ run_by full_copy g x.now pred.now long.now ar.now tilt.now harm.now lf.now gains.now lags.now
-        g.nb_subfr (framed_at t lpc.entry ring.entry ltp.entry dgain.entry xq.entry shp.entry pulses.entry))
+        g.nb_subfr (framed_at t lpc.old ring.old ltp.old dgain.old xq.old shp.old pulses.old))
         × (result.work.smpl_buf_idx < 40) }
     ensures chosen { own.new
         ≡ carried_by chosen full_copy g x.now pred.now long.now ar.now tilt.now harm.now lf.now gains.now lags.now
-        g.nb_subfr (framed_at t lpc.entry ring.entry ltp.entry dgain.entry xq.entry shp.entry pulses.entry) own.old }
+        g.nb_subfr (framed_at t lpc.old ring.old ltp.old dgain.old xq.old shp.old pulses.old) own.old }
 {
     let mut u = t;
     for k in 0..g.nb_subfr {

@@ -1,29 +1,29 @@
 -- `excitation::reader::fill` meets its contract. Assumes nothing.
-use Prim.Native.Nat.{◌≤◌, ◌-◌, ◌^◌}
+use Prim.Native.Nat.{◌^◌}
 use native.Mathlib.Omega.{arith}
 use mathlib.Core.Path.{◌≡◌, refl, sym, ap, ◌∙◌}
 use lib.ListN.{length, length-set, get_or}
 use lib.Seq.{take_all}
 use lib.IntN.{pos}
 use mir.Syntax.{w8, w32}
-use mir.Val.{to_z}
-use Rattle.fixed.specs.Iter.{iter}
+use mir.Val.{to_z, of_z}
 use Rattle.fixed.specs.Wrap.{mod_z}
 use Rattle.fixed.proofs.Iters.{iter-more}
-use Rattle.fixed.proofs.Fit.{read, back}
+use Rattle.fixed.proofs.Fit.{read}
 use Rattle.rfc6716.specs.Excitation.{Row, turn, excitation}
-use Rattle.excitation.proofs.Rows.{so_far, one_more}
+use Rattle.excitation.proofs.Rows.{one_more}
 use Rattle.std.proofs.Common.{rules}
 use Rattle.excitation.proofs.reader.fill.Goals as goal
 
 pub loop-i-preserved : goal.loop-i-preserved
 loop-i-preserved c =
     let o = read c.ranges.offset in
-    let x = back w8 (get_or c.args.pulses.now c.loop-i.i (pos 0)) c.pulse-arg-1.given in
-    let e = back w32 c.pulse-t.result.e_Q23 c.struct_told-1.given.0.1 in
-    let t = back w32 c.pulse-t.result.seed c.struct_told-in-loop-i-1.given.1.0.1 in
-    let value = rw (o, x) at c.pulse-t.ensures.0 in
-    let seed = rw x at c.pulse-t.ensures.1 in
+    let p = get_or c.args.pulses.now c.loop-i.i (pos 0) in
+    let x : to_z w8 (of_z w8 p) ≡ p = search rules in
+    let e : to_z w32 (of_z w32 c.pulse-t.result.e_Q23) ≡ c.pulse-t.result.e_Q23 = search rules in
+    let t : to_z w32 (of_z w32 c.pulse-t.result.seed) ≡ c.pulse-t.result.seed = search rules in
+    let value = rw (o, x) at c.pulse-t.ensures.value in
+    let seed = rw x at c.pulse-t.ensures.seed in
     let inv = rw (o, read c.ranges.first) at c.loop-i.invariant.1.1.1 in
     let pulses = c.args.pulses.now in
     let more =

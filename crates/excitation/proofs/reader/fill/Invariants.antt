@@ -1,19 +1,11 @@
 -- `excitation::reader::fill` meets its contract. Assumes nothing.
 use Prim.Native.Nat.{◌≤◌, ◌-◌, ◌^◌}
-use native.Mathlib.Omega.{arith}
-use mathlib.Core.Path.{◌≡◌, refl, sym, ap, ◌∙◌}
-use lib.ListN.{length, length-set, get_or}
-use lib.Seq.{take_all}
-use lib.IntN.{pos}
-use mir.Syntax.{w8, w32}
-use mir.Val.{to_z}
+use mathlib.Core.Path.{◌≡◌}
+use lib.ListN.{length}
 use Rattle.fixed.specs.Iter.{iter}
 use Rattle.fixed.specs.Wrap.{mod_z}
-use Rattle.fixed.proofs.Iters.{iter-more}
-use Rattle.fixed.proofs.Fit.{read, back}
-use Rattle.rfc6716.specs.Excitation.{Row, turn, excitation}
-use Rattle.excitation.proofs.Rows.{so_far, one_more}
-use Rattle.std.proofs.Common.{rules}
+use Rattle.rfc6716.specs.Excitation.{turn}
+use Rattle.excitation.proofs.Rows.{so_far}
 use Rattle.excitation.proofs.reader.fill.Given as goal
 
 abbrev pub invariant-loop-i : goal.invariant-loop-i

@@ -1,7 +1,6 @@
 -- `excitation::refusals::check` meets its contract. Assumes nothing.
 use Rattle.fixed.proofs.Fit.{read}
 use Rattle.excitation.specs.Refused.{answer_of, table, seed_refused}
-use Rattle.std.proofs.Common.{rules}
 use Rattle.excitation.proofs.refusals.check.Goals as goal
 
 pub returns : goal.returns

@@ -4,7 +4,6 @@ use lib.IntN.{pos}
 use Rattle.fixed.proofs.Fit.{read}
 use Rattle.limits.specs.Tests.{outside}
 use Rattle.excitation.specs.Refused.{kinds_refused}
-use Rattle.std.proofs.Common.{rules}
 use Rattle.excitation.proofs.refusals.kinds_refused.Goals as goal
 
 pub returns-then-outside : goal.returns-then-outside

@@ -1,7 +1,6 @@
 -- `excitation::refusals::rows_refused` meets its contract. Assumes nothing.
 use borrow.Author.Tests.{ne_eqb, eq-eqb}
 use Rattle.excitation.specs.Refused.{rows_refused}
-use Rattle.std.proofs.Common.{rules}
 use Rattle.excitation.proofs.refusals.rows_refused.Goals as goal
 
 pub returns-then-pulses-row : goal.returns-then-pulses-row

@@ -1,0 +1,13 @@
+-- `edges::ends::other` meets its contract. Assumes nothing.
+use borrow.Author.Tests.{eq-eqb, ne_eqb}
+use Rattle.steps.specs.Flush.{other_path}
+use Rattle.std.proofs.Common.{rules}
+use Rattle.edges.proofs.ends.other.Goals as goal
+
+pub returns-then-k-w : goal.returns-then-k-w
+unfolding other_path
+returns-then-k-w c = rw (eq-eqb _ _ c.if-k-w.true)
+
+pub returns : goal.returns
+unfolding other_path
+returns c = rw (ne_eqb _ _ c.if-k-w.false) c.raised.ensures

@@ -1,0 +1,13 @@
+-- `subframes::scalars::second` meets its contract. Assumes nothing.
+use mathlib.Core.Path.{◌∙◌, sym}
+use Rattle.steps.specs.Call.{second_by}
+use Rattle.std.proofs.Common.{rules}
+use Rattle.subframes.proofs.scalars.second.Goals as goal
+
+pub returns-then-twice : goal.returns-then-twice
+unfolding second_by
+returns-then-twice c = rw (sym c.twice.ensures ∙ c.if-twice.true)
+
+pub returns : goal.returns
+unfolding second_by
+returns c = rw (sym c.twice.ensures ∙ c.if-twice.false)
