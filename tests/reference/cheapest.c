@@ -3,7 +3,7 @@
  * choices there were, how many had a cheaper pulse, and the one that loses most. Written from docs/RULES.md, "One sample", in 64 bits, where nothing
  * wraps; it shares nothing with the code. Request E10 proves that with Lambda from 0 to 1104 no pulse at all is cheaper.
  *
- *     gcc -O2 tests/reference/cheapest.c -o target/cheapest && target/cheapest 0 1104 && target/cheapest 1105 1105 */
+ *     mkdir -p target && gcc -O2 tests/reference/cheapest.c -o target/cheapest && target/cheapest 0 1104 && target/cheapest 1105 1105 */
 #include <stdint.h>
 #include <stdio.h>
 #include <stdlib.h>

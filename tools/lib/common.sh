@@ -20,11 +20,11 @@ need_rt() {
         "project is written: put the kit's folder bin on PATH"
 }
 
-# The folder of the kit: of the command rt, unless RATTLE_HOME names another.
+# The folder of the kit, which is that of the command rt.
 kit_home() {
     need_rt
-    echo "${RATTLE_HOME:-$(dirname "$(dirname "$(readlink -f "$(command -v rt)")")")}"
+    dirname "$(dirname "$(readlink -f "$(command -v rt)")")"
 }
 
-# The folder of the kit's compiler for this kind of machine.
-kit_toolchain() { echo "$(kit_home)/on/$(uname -m)/toolchain"; }
+# The folder of the kit's compiler.
+kit_toolchain() { echo "$(kit_home)/toolchain"; }

@@ -52,7 +52,7 @@ choose_tools() { # TARGET
     case $1 in
     x86-64)
         cc=(x86_64-linux-gnu-gcc -O2 -static) cc_packages="gcc-x86-64-linux-gnu libc6-dev-amd64-cross"
-        emulator=("$(kit_toolchain)/bin/qemu-x86_64") emulator_packages="none; the Rattle kit for $(uname -m) has it"
+        emulator=("$(first_of qemu-x86_64 qemu-x86_64-static)")
         ;;
     aarch64)
         cc=(aarch64-linux-gnu-gcc -O2 -static) cc_packages="gcc-aarch64-linux-gnu libc6-dev-arm64-cross"

@@ -9,7 +9,7 @@ use Rattle.path.specs.declared.structs.Fix.{Fix}
 use Rattle.path.specs.declared.structs.Work.{Work}
 use Rattle.path.specs.Data.{Running, running}
 use Rattle.steps.specs.Scale.{filled}
-use Rattle.steps.specs.Frame.{rewhitened_at, refilled, Whitened, whitened_of, whitened, whitened_first, flushed_first, regained, regained_last, before}
+use Rattle.steps.specs.Frame.{rewhitened_at, refilled, whitened_of, whitened, whitened_first, flushed_first, regained, regained_last, before}
 
 -- the work row after the rewhitening
 abbrev pub refill : Bool → Fix → List ℤ → ℤ → List ℤ → List ℤ → List ℤ → List ℤ

@@ -14,7 +14,6 @@ use Rattle.fixed.specs.Shift.{shl32}
 use Rattle.fixed.proofs.Iters.{one_more}
 use Rattle.seeds.specs.Generator.{rand}
 use Rattle.residuals.specs.Residual.{signed_excitation, seed_with}
-use Rattle.residuals.specs.Residual as residuals
 use Rattle.noise.specs.Output.{pulse_of}
 use Rattle.path.specs.declared.structs.Candidate.{Candidate}
 use Rattle.path.specs.declared.structs.Fix.{Fix}

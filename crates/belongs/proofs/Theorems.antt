@@ -1,6 +1,6 @@
 -- The pulses that an accepted call hands out are those that the final winner chose, whatever the number of paths: the report of every call is 0. And the
 -- far end hears what the winner meant. For every rule of replacement; Lambda is an i32 (the code has no other). Assumes nothing.
-use Prim.Native.Nat.{ℕ, zero, suc, ◌+◌, ◌*◌, ◌<◌, ◌≤◌}
+use Prim.Native.Nat.{ℕ, zero, suc, ◌*◌, ◌<◌, ◌≤◌}
 use native.Mathlib.Omega.{arith}
 use native.Mathlib.Nat.{mul-le-mul_right}
 use mathlib.Core.Path.{◌≡◌, refl, sym, ap, ◌∙◌, subst}

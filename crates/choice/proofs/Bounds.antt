@@ -1,7 +1,7 @@
 -- What holds of the chosen pair for every residual and offset in range and every Lambda: the two are neighbours in -32 .. 30, and
 -- their costs lie in -1044180 .. 1045828. Examples.antt has a choice at either end.
 -- Assumes nothing.
-use Prim.Native.Nat.{ℕ, suc, ◌+◌, ◌*◌, ◌≤◌, ◌<◌}
+use Prim.Native.Nat.{ℕ, suc, ◌+◌, ◌*◌, ◌≤◌}
 use native.Mathlib.Omega.{arith}
 use native.Mathlib.Nat.{mul-le-mul, mul-le-mul_left, mul-le-mul_right}
 use mathlib.Core.Path.{◌≡◌, refl, sym, ap, subst}

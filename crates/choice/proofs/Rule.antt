@@ -1,6 +1,6 @@
 -- The Rust's steps and the rule of docs/RULES.md are the same choice, for every residual and offset in range and every Lambda.
 -- Assumes nothing.
-use Prim.Native.Nat.{zero, suc, ◌+◌, ◌*◌, ◌≤◌, ◌<◌}
+use Prim.Native.Nat.{zero, suc, ◌+◌, ◌≤◌, ◌<◌}
 use native.Mathlib.Omega.{arith}
 use mathlib.Core.Path.{◌≡◌, refl, ap, ◌∙◌}
 use mathlib.Core.Bool.{true}

@@ -4,6 +4,7 @@
 // The file `stdout` beside src/ was written by the Rust, not by this program: by tests/rust/choice_digest.rs, which runs the same
 // loop over the lines of NSQ_del_dec.rs, cut out unchanged into a function, and over its offset table. That file says how to repeat it.
 #![tactic(auto)]
+
 use choice::candidate;
 use fixed::wrap;
 use program_words::bits;

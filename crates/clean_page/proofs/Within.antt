@@ -145,10 +145,12 @@ clean-ten r1 r2 r3 r4 r5 r6 r7 r8 r9 r10 a1 a2 a3 a4 a5 a6 a7 a8 a9 a10 =
 apart : (kind : Kind) (kinds : List Kind) (rows : List (List ℤ)) (C : List (List ℤ) → Type 0) → Allowing (kind ∷ kinds) rows
     → ((zs : List ℤ) (rest : List (List ℤ)) → Allowed kind zs → Allowing kinds rest → C (zs ∷ rest))
     → C rows
+apart kind kinds [] C x'' f = elim x'' [ ]
 apart kind kinds (zs ∷ rows) C (trip.more a all) f = f zs rows a all
 
 apart-end : (rows : List (List ℤ)) (C : List (List ℤ) → Type 0) → Allowing [] rows → C [] → C rows
 apart-end [] C trip.none c = c
+apart-end (_ ∷ _) C x4 c = elim x4 [ ]
 
 pub by-sections : (C : List (List ℤ) → Type 0)
     → ((r1 r2 r3 r4 r5 r6 r7 r8 r9 r10 : List ℤ)

@@ -1,13 +1,11 @@
 -- Ranges: `Between m n z` says that z is from -m to n.
 use mathlib.Core.Path.{◌≡◌, refl}
-use mathlib.Core.Bool.{Bool, true, false}
-use Prim.Native.Nat.{ℕ, ◌+◌, ◌*◌, ◌^◌, ◌≤◌, ◌<◌}
+use Prim.Native.Nat.{ℕ, ◌+◌, ◌^◌, ◌≤◌}
 use native.Mathlib.Omega.{arith}
 use lib.IntN.{ℤ, pos, negsuc, neg_ℤ, ◌+ℤ◌, ◌-ℤ◌, ◌*ℤ◌}
 use lib.Signed.{lt_z}
-use mir.Syntax.{w16, w32, w64}
+use mir.Syntax.{w16, w32}
 use mir.Val.{SFits}
-use Rattle.fixed.specs.Iter.{either}
 use Rattle.fixed.specs.Range.{clamp, sat16}
 use Rattle.fixed.specs.Shift.{shr}
 use Rattle.fixed.proofs.Lin.{P, N, add-lin, sub-lin-Z, neg-lin, sfits-lin, sfits-of-lin, lt-true, lt-false}

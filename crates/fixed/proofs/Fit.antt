@@ -11,7 +11,7 @@ use mir.Syntax.{Width, w8, w16, w32, w64}
 use mir.Val.{SFits, to_z, of_z, hbits}
 use mir.ValLaws.{sfits_le}
 use mir.Facts.{sfits_widen, sfits_lit, to_z-of_z}
-use Rattle.fixed.proofs.Lin.{P, N, add-lin, sub-lin-Z, neg-lin, mul-lin, abs-lin, sfits-lin, sfits-of-lin, shr-lin, mod-lin}
+use Rattle.fixed.proofs.Lin.{P, N, add-lin, sub-lin-Z, neg-lin, mul-lin, abs-lin, sfits-lin, sfits-of-lin}
 use Rattle.fixed.proofs.Wraps.{wrap32-fits, wrap16-fits, wrap8-fits}
 
 -- ---- a narrow number in a wider type

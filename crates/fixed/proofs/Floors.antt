@@ -1,14 +1,12 @@
 -- The laws of the shift right, which rounds towards minus infinity, and of the rounded shift.
-use mathlib.Core.Path.{◌≡◌, refl, sym, ap, ◌∙◌}
-use Prim.Native.Nat.{ℕ, suc, ◌+◌, ◌-◌, ◌*◌, ◌^◌, ◌≤◌, ◌<◌}
+use mathlib.Core.Path.{◌≡◌, sym, ap, ◌∙◌}
+use Prim.Native.Nat.{ℕ, ◌+◌, ◌-◌, ◌*◌, ◌^◌, ◌<◌}
 use native.Mathlib.Omega.{arith}
 use native.Mathlib.Nat.{eq_of_mul-eq-mul_left, mul-le-mul_left}
 use native.Mathlib.Numerals.{add-one}
 use lib.IntN.{ℤ, pos, negsuc, ◌+ℤ◌}
 use lib.Pow.{pow_pos, shr-shr}
 use lib.Signed.{shr_z}
-use mir.Syntax.{w32}
-use mir.Val.{SFits}
 use Rattle.fixed.specs.Wrap.{mod_z}
 use Rattle.fixed.specs.Shift.{shr, rround}
 use Rattle.fixed.proofs.Lin.{P, N, eq_of, add-lin, shr-lin, mod-lin}

@@ -1,16 +1,16 @@
 -- Linear arithmetic on ℤ by `omega`. `P z` is z where z is positive and 0 elsewhere, `N z` is -z where z is negative, so z is P z - N z.
 -- A statement on ℤ is one on the P and N of its parts, which `omega` takes as unknown naturals. Each operation has a law on them.
-use mathlib.Core.Path.{◌≡◌, refl, sym, ap, ◌∙◌, subst}
+use mathlib.Core.Path.{◌≡◌, sym, ap, subst}
 use mathlib.Core.Bool.{Bool, true, false, not, cond}
-use Prim.Native.Nat.{ℕ, zero, suc, ◌+◌, ◌-◌, ◌*◌, ◌/◌, ◌%◌, ◌^◌, ◌≤◌, ◌<◌}
+use Prim.Native.Nat.{ℕ, zero, suc, ◌+◌, ◌-◌, ◌*◌, ◌^◌, ◌≤◌, ◌<◌}
 use native.Mathlib.Omega.{arith}
-use native.Mathlib.Nat.{mul-le-mul, mul_comm, mod-lt, div-add-mod'}
-use lib.IntN.{ℤ, pos, negsuc, neg_ℤ, nat_abs, sub_ℕ, ◌+ℤ◌, ◌-ℤ◌, ◌*ℤ◌}
-use lib.Dec.{T, ltb, leb, ltb→lt, nltb→le, leb→le, le→leb, lt→ltb}
-use lib.Signed.{mag, lt_z, le_z, shr_z, ◌≤ℤ◌, ◌<ℤ◌, lt_z_no}
+use native.Mathlib.Nat.{mul-le-mul, mod-lt, div-add-mod'}
+use lib.IntN.{ℤ, pos, negsuc, neg_ℤ, sub_ℕ, ◌+ℤ◌, ◌-ℤ◌, ◌*ℤ◌}
+use lib.Dec.{T, ltb, ltb→lt, nltb→le, leb→le, le→leb, lt→ltb}
+use lib.Signed.{lt_z, le_z, shr_z, ◌≤ℤ◌, ◌<ℤ◌, lt_z_no}
 use borrow.Author.Tests.{leb-false}
-use mir.Syntax.{Width, w16, w32, w64}
-use mir.Val.{SFits, Fits, to_z, of_z, sel, bits, hbits}
+use mir.Syntax.{Width}
+use mir.Val.{SFits, sel, hbits}
 use Rattle.fixed.specs.Wrap.{mod_z}
 
 abbrev pub P : ℤ → ℕ

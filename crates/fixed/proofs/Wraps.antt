@@ -1,7 +1,7 @@
 -- The laws of wrapping, over the half range h: `wrap_to h z` is the one number from -h to h - 1 that differs from z by a multiple of 2 * h.
 -- Each law is proved once, for every h; wrap32, wrap16 and wrap8 are its instances.
-use mathlib.Core.Path.{◌≡◌, refl, sym, ap, ◌∙◌, subst}
-use Prim.Native.Nat.{ℕ, zero, suc, ◌+◌, ◌-◌, ◌*◌, ◌/◌, ◌%◌, ◌^◌, ◌≤◌, ◌<◌}
+use mathlib.Core.Path.{◌≡◌, refl, sym, ap, ◌∙◌}
+use Prim.Native.Nat.{ℕ, suc, ◌+◌, ◌-◌, ◌*◌, ◌/◌, ◌%◌, ◌^◌, ◌≤◌, ◌<◌}
 use native.Mathlib.Omega.{arith}
 use native.Mathlib.Nat.{mod-eq_of_lt, add-mul-mod_self_left, mod-lt, div-add-mod', mul-lt-mul_of_pos_right, mul-le-mul_right, mul-pos, eq_of_mul-eq-mul_left}
 use lib.IntN.{ℤ, pos, negsuc, neg_ℤ, ◌+ℤ◌, ◌-ℤ◌, ◌*ℤ◌, +ℤ_comm}

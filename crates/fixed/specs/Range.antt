@@ -1,6 +1,6 @@
 -- Numbers held to a range.
 -- Assumes nothing.
-use Rattle.std.specs.Prelude.{Bool, true, false, ℤ, pos, negsuc, neg_ℤ}
+use Rattle.std.specs.Prelude.{ℤ, pos, negsuc, neg_ℤ}
 use Rattle.std.specs.Int.Signed.{lt_z}
 use Rattle.fixed.specs.Wrap.{wrap32}
 use Rattle.fixed.specs.Iter.{either}

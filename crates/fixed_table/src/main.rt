@@ -5,6 +5,7 @@
 // expressions themselves (`wrapping_add`, `as i16`, `>>`, ..), built without overflow checks:
 //     rustc -O -C overflow-checks=no tests/rust/fixed_table.rs -o fixed_table && ./fixed_table > crates/fixed_table/stdout
 #![tactic(auto)]
+
 use fixed::wrap;
 use products::product;
 use program_words::bits;

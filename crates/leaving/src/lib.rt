@@ -1,3 +1,4 @@
 // What leaves at the decision delay (`silk_noise_shape_quantizer_del_dec` of NSQ_del_dec.rs).
 #![tactic(auto)]
+
 pub mod emission;

@@ -6,6 +6,7 @@
 // The file `stdout` was not made by this program: the Rust printed it, with the lag 100 in a fresh state (it was made again for
 // request E3). To repeat that: tools/oracle, then target/oracle/oracle stream --digest < crates/nsq_replay/stdin.
 #![tactic(auto)]
+
 mod digest;
 mod input;
 mod print;

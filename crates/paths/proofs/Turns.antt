@@ -13,9 +13,9 @@ use Rattle.path.specs.declared.structs.Sampled.{Sampled}
 use Rattle.fixed.specs.Row.{word}
 use Rattle.path.specs.Data.{Running, running, Rows}
 use Rattle.steps.specs.Among.{Rule}
-use Rattle.steps.specs.Carried.{candidates_at, fined_at, swap_from, swap_at, chosen, copied_row, noted, pulses_noted, carry_turn}
+use Rattle.steps.specs.Carried.{candidates_at, fined_at, swap_from, swap_at, chosen, copied_row, pulses_noted, carry_turn}
 use Rattle.steps.specs.Each.{moves, pairs}
-use Rattle.steps.specs.Settled.{Settled, settled_of}
+use Rattle.steps.specs.Settled.{settled_of}
 use Rattle.steps.specs.Sample.{sample}
 use Rattle.steps.specs.Turn.{took_from, took, put_at, put, turn}
 use Rattle.steps.specs.Leaving.{leaves, emit}

@@ -1,6 +1,6 @@
 -- Where a subframe's samples are: the ring's places, and what the places in the rows need. The Rust's sLTP_shp_buf_idx is 4 * L + base + i at
 -- sample i, its sLTP_buf_idx is buf + i; pointers that the Rust moves by a lag are places in a row. Assumes nothing.
-use Rattle.std.specs.Prelude.{ℕ, ◌+◌, ◌-◌, ◌*◌, ◌%◌, ◌<◌, ◌≤◌, ◌≡◌, Bool, true, false, eqb}
+use Rattle.std.specs.Prelude.{ℕ, ◌+◌, ◌-◌, ◌*◌, ◌%◌, ◌<◌, ◌≤◌, ◌≡◌, true, false, eqb}
 use Rattle.fixed.specs.Iter.{either}
 use Rattle.path.specs.declared.structs.Fix.{Fix}
 

@@ -5,6 +5,7 @@
 // lines of `NSQ_del_dec.rs` (unopus 0.0.1) themselves, cut out word for word, and is built without overflow checks:
 //     rustc -O -C overflow-checks=no tests/rust/shaping_replay.rs -o shaping_replay && ./shaping_replay > crates/shaping_replay/stdout
 #![tactic(auto)]
+
 mod answers;
 mod digest;
 mod words;

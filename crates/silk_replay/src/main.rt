@@ -6,6 +6,7 @@
 // It calls `silk_INVERSE32_varQ`, `silk_DIV32_varQ` and `silk_LPC_analysis_filter` of the crate itself, and has the lines
 // of `silk_nsq_del_dec_scale_states` that make something of a gain word for word.
 #![tactic(auto)]
+
 mod arguments;
 mod numbers;
 mod rows;

@@ -1,9 +1,9 @@
 -- What an accepted call hands out: as many pulses as the lent row has words, each of them and the seed within a byte, for every call whose lent row
 -- holds bytes. Assumes nothing.
-use Prim.Native.Nat.{ℕ, zero, suc, ◌+◌, ◌-◌, ◌*◌, ◌%◌}
+use Prim.Native.Nat.{ℕ, zero, suc, ◌+◌, ◌-◌, ◌*◌}
 use native.Mathlib.Omega.{arith}
 use native.Mathlib.Nat.{mod-lt}
-use mathlib.Core.Path.{◌≡◌, refl, ap, ◌∙◌}
+use mathlib.Core.Path.{◌≡◌, refl, ◌∙◌}
 use mathlib.Core.Bool.{Bool}
 use mathlib.Core.List.{List, [], ◌∷◌}
 use lib.ListN.{length, get_or, set, replicate, length-set}
@@ -12,7 +12,6 @@ use lib.Dec.{eqb}
 use mir.Syntax.{w8}
 use mir.Val.{SFits}
 use mir.Facts.{sfits_lit}
-use Rattle.fixed.specs.Iter.{iter, either}
 use Rattle.fixed.specs.Row.{word}
 use Rattle.fixed.proofs.Iters.{iter-keeps, either-all}
 use Rattle.fixed.proofs.Wraps.{wrap8-fits}
@@ -24,15 +23,14 @@ use Rattle.path.specs.declared.structs.Candidate.{Candidate}
 use Rattle.path.specs.declared.structs.Fix.{Fix}
 use Rattle.path.specs.declared.structs.Halves.{Halves}
 use Rattle.path.specs.declared.structs.Moves.{Moves}
-use Rattle.path.specs.declared.structs.Common.{Common}
 use Rattle.path.specs.Data.{no_path, Paths, paths, Running, Rows}
 use Rattle.path.specs.Path.{moved}
-use Rattle.path.specs.Taken.{Whole, path_at, taken, taken_own}
+use Rattle.path.specs.Taken.{taken, taken_own}
 use Rattle.path.specs.Scaled.{scaled_path, scaled_own}
 use Rattle.refusal_rules.specs.Code.{code_of}
 use Rattle.steps.specs.Among.{Rule, swap_of, copied, replaced}
 use Rattle.steps.specs.Each.{move_turn, unmoved, moves, take_turn, taken_all}
-use Rattle.steps.specs.Settled.{Settled, leaving, replacing, settled}
+use Rattle.steps.specs.Settled.{leaving, replacing, settled}
 use Rattle.steps.specs.Sample.{tried, sample}
 use Rattle.steps.specs.Leaving.{leaves, emit}
 use Rattle.steps.specs.Turn.{took_from, took, put_at, put, turn}
@@ -41,7 +39,7 @@ use Rattle.steps.specs.Scale.{scale_path_turn, scaled_paths, scaled}
 use Rattle.steps.specs.Call.{Call, length_of, count_of, paths_of}
 use Rattle.steps.specs.Begin.{zero_path, zero_lpcs, zero_rings, own_from, start_lpc, start_rings, begin_turn, begun}
 use Rattle.steps.specs.Flush.{Outs, flush_at, flush_turn, flushed, raised_path, other_path, others_turn, others_raised}
-use Rattle.steps.specs.Frame.{Framed, Done, start_paths, start, flushed_run, middle_by, refilled, Whitened, whitened_of, whitened, regained, flushed_first, whitened_first, before, coded, step, turn_by, subframe_turn, run, ended_by, frame}
+use Rattle.steps.specs.Frame.{Framed, start_paths, start, flushed_run, middle_by, refilled, Whitened, whitened_of, whitened, regained, flushed_first, whitened_first, before, coded, step, turn_by, subframe_turn, run, ended_by, frame}
 use Rattle.steps.specs.Entry.{outcome, answered}
 use Rattle.steps.proofs.Outcomes.{outcome-is, accepted-by}
 

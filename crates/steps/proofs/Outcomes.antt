@@ -1,6 +1,6 @@
 -- The outcome of a call and its report, taken apart: number 0 is the frame's, and the call is good; every other number leaves all as it was, and
 -- reports 0. Assumes nothing.
-use Prim.Native.Nat.{ℕ, ◌<◌}
+use Prim.Native.Nat.{◌<◌}
 use native.Mathlib.Omega.{arith}
 use mathlib.Core.Path.{◌≡◌, refl}
 use mathlib.Core.List.{List}

@@ -5,7 +5,7 @@ use Rattle.fixed.specs.Iter.{iter}
 use Rattle.silk.specs.State.{zeros}
 use Rattle.path.specs.declared.structs.Path.{Path}
 use Rattle.fixed.specs.Row.{word}
-use Rattle.path.specs.Data.{Paths, paths, ring_shape}
+use Rattle.path.specs.Data.{Paths, ring_shape}
 use Rattle.path.specs.Taken.{whole, path_set}
 
 -- ---- the four paths before any is begun

@@ -18,7 +18,7 @@ use Rattle.steps.specs.Among.{Rule, swap_of}
 use Rattle.steps.specs.Each.{moves, pairs}
 use Rattle.steps.specs.Shared.{common}
 use Rattle.steps.specs.Turn.{turn}
-use Rattle.steps.specs.Call.{Call, given_of, count_of, fix_by, rows_by}
+use Rattle.steps.specs.Call.{Call, given_of, fix_by, rows_by}
 use Rattle.steps.specs.Frame.{Framed, start, before, prior_by, run_by}
 
 -- ---- who becomes whose copy at a sample: the values that `settled` computes

@@ -1,6 +1,6 @@
 -- A call, refused or accepted: docs/RULES.md, demands 1 and 2. Whatever a call is given, `outcome` is what comes of it: its answer, the seed, the
 -- state and the pulses, each word of them. Assumes nothing.
-use Rattle.std.specs.Prelude.{ℕ, List, ℤ, eqb}
+use Rattle.std.specs.Prelude.{List, ℤ, eqb}
 use Rattle.fixed.specs.Iter.{either}
 use Rattle.silk.specs.declared.structs.NsqState.{NsqState}
 use Rattle.steps.specs.Among.{Rule}

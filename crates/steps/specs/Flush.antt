@@ -1,6 +1,6 @@
 -- The winner's last D samples handed out at once: in silk_NSQ_del_dec_c of NSQ_del_dec.rs before the second rewhitening, and at the end.
 -- Assumes nothing.
-use Rattle.std.specs.Prelude.{ℕ, ◌+◌, ◌-◌, ◌*◌, ◌%◌, Bool, true, false, List, [], get_or, set, ℤ, ◌+ℤ◌, eqb}
+use Rattle.std.specs.Prelude.{ℕ, ◌+◌, ◌-◌, ◌%◌, List, [], get_or, set, ℤ, ◌+ℤ◌, eqb}
 use Rattle.std.specs.Int.Signed.{lt_z}
 use Rattle.fixed.specs.Iter.{iter, either}
 use Rattle.fixed.specs.Wrap.{wrap32}
@@ -8,7 +8,7 @@ use Rattle.fixed.specs.Shift.{shr32}
 use Rattle.noise.specs.Output.{pulse_of, xq_out}
 use Rattle.path.specs.declared.structs.Path.{Path}
 use Rattle.fixed.specs.Row.{word}
-use Rattle.path.specs.Data.{no_path, paths, Running, ring_q, ring_xq, ring_shape}
+use Rattle.path.specs.Data.{no_path, ring_q, ring_xq, ring_shape}
 use Rattle.path.specs.Taken.{penalty}
 
 -- one path more in the search of the least running cost

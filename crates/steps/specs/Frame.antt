@@ -1,5 +1,5 @@
 -- A whole frame: silk_NSQ_del_dec_c of NSQ_del_dec.rs, and docs/RULES.md, "One frame". Assumes nothing.
-use Rattle.std.specs.Prelude.{ℕ, ◌+◌, ◌-◌, ◌*◌, ◌<◌, Bool, true, false, List, [], ◌∷◌, ◌++◌, get_or, take, drop, replicate, ℤ, pos}
+use Rattle.std.specs.Prelude.{ℕ, ◌+◌, ◌-◌, ◌*◌, Bool, List, [], ◌++◌, get_or, take, drop, replicate, ℤ, pos}
 use Rattle.fixed.specs.Iter.{iter, either}
 use Rattle.silk.specs.State.{zeros}
 use Rattle.silk.specs.declared.structs.NsqState.{NsqState}
@@ -8,7 +8,7 @@ use Rattle.word_steps.specs.Filter.{analysis}
 use Rattle.path.specs.declared.structs.Path.{Path}
 use Rattle.path.specs.declared.structs.Fix.{Fix}
 use Rattle.fixed.specs.Row.{word}
-use Rattle.path.specs.Data.{no_path, Paths, paths, Core, Running, Rows}
+use Rattle.path.specs.Data.{no_path, Paths, paths, Running, Rows}
 use Rattle.steps.specs.Among.{Rule}
 use Rattle.steps.specs.Subframe.{subframe}
 use Rattle.steps.specs.Scale.{filled, scaled}

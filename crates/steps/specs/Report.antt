@@ -1,6 +1,6 @@
 -- Request E9: did the handed-out pulses belong to the winner? The report of a call is made of two rows: the pulses that it hands out, and those
 -- that the final winner chose itself. Assumes nothing.
-use Rattle.std.specs.Prelude.{ℕ, ◌+◌, ◌-◌, ◌*◌, List, [], get_or, ℤ, eqb}
+use Rattle.std.specs.Prelude.{ℕ, ◌+◌, ◌*◌, List, [], get_or, ℤ, eqb}
 use Rattle.fixed.specs.Iter.{iter, either}
 use Rattle.fixed.specs.Row.{word}
 use Rattle.limits.specs.Count.{same_z}

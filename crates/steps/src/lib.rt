@@ -2,4 +2,5 @@
 // whole call. It has no function: what the code is proved against and what demand 3 speaks of stands in specs/, and rests on no code above
 // a path's.
 #![tactic(auto)]
+
 pub mod structs;

@@ -6,6 +6,7 @@
 // The file `stdout` was not made by this program. tests/rust/subframe_replay.rs makes the same settings and rows, and calls the
 // two functions of `NSQ_del_dec.rs` (unopus 0.0.1) themselves; that file says how to repeat it.
 #![tactic(auto)]
+
 mod digest;
 mod fits;
 mod rows;

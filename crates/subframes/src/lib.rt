@@ -1,3 +1,4 @@
 // The scalars of each subframe of a call.
 #![tactic(auto)]
+
 pub mod scalars;

@@ -1,6 +1,5 @@
 -- `among::replacement::moved_over` meets its contract. Assumes nothing.
 use Rattle.steps.specs.Among.{moved_over}
-use Rattle.std.proofs.Common.{rules}
 use Rattle.among.proofs.replacement.moved_over.Goals as goal
 
 pub returns-then-s : goal.returns-then-s

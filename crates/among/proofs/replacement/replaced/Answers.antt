@@ -1,7 +1,6 @@
 -- `among::replacement::replaced` meets its contract. Assumes nothing.
 use Rattle.steps.specs.Among.{full_copy, replaced, copied}
 use Rattle.steps.specs.Carried.{copied_row}
-use Rattle.std.proofs.Common.{rules}
 use Rattle.among.proofs.replacement.replaced.Goals as goal
 
 pub returns-then-s : goal.returns-then-s

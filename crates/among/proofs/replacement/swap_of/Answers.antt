@@ -1,9 +1,7 @@
 -- `among::replacement::swap_of` meets its contract. Assumes nothing.
-use mathlib.Core.Path.{◌≡◌, ap, ◌∙◌}
 use Rattle.path.specs.Data.{candidate_at}
 use Rattle.steps.specs.Among.{swap_of}
 use Rattle.path.proofs.Told.{candidate}
-use Rattle.std.proofs.Common.{rules}
 use Rattle.among.proofs.replacement.swap_of.Goals as goal
 
 pub returns : goal.returns

@@ -2,11 +2,10 @@
 use mathlib.Core.Path.{◌∙◌}
 use lib.IntN.{pos}
 use lib.ListN.{get_or}
-use Rattle.fixed.proofs.Fit.{got16, got32, fit, read, fit16-32}
+use Rattle.fixed.proofs.Fit.{got16, got32, read, fit16-32}
 use mir.Syntax.{w16}
 use mir.Val.{SFits}
 use Rattle.word_steps.specs.Filter.{filtered}
-use Rattle.std.proofs.Common.{rules}
 use Rattle.analysis.proofs.lpc_analysis_filter.filtered.Goals as goal
 
 pub returns : goal.returns

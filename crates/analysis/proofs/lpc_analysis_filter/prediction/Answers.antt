@@ -1,11 +1,9 @@
 -- `analysis::lpc_analysis_filter::prediction` meets its contract. Assumes nothing.
-use mathlib.Core.Path.{◌≡◌, refl, ◌∙◌}
-use Prim.Native.Nat.{◌-◌, ◌≤◌}
+use mathlib.Core.Path.{◌≡◌, ◌∙◌}
 use native.Mathlib.Omega.{arith}
 use lib.IntN.{pos}
 use mir.Syntax.{w32}
 use mir.Val.{to_z}
-use Rattle.fixed.specs.Iter.{iter}
 use Rattle.fixed.proofs.Fit.{got16, got32}
 use Rattle.fixed.proofs.Iters.{iter-more}
 use Rattle.word_steps.specs.Filter.{tap, prediction}

@@ -1,13 +1,9 @@
 -- `analysis::lpc_analysis_filter::silk_LPC_analysis_filter` meets its contract. Assumes nothing.
 use mathlib.Core.Path.{◌≡◌, ◌∙◌}
-use Prim.Native.Nat.{◌-◌, ◌≤◌}
+use Prim.Native.Nat.{◌-◌}
 use native.Mathlib.Omega.{arith}
-use lib.ListN.{length, length-set}
-use Rattle.fixed.specs.Iter.{iter}
-use Rattle.fixed.proofs.Fit.{got16}
-use Rattle.fixed.proofs.Iters.{iter-more}
-use Rattle.word_steps.specs.Filter.{filter_turn, clear_turn, analysis}
-use Rattle.std.proofs.Common.{rules}
+use lib.ListN.{length}
+use Rattle.word_steps.specs.Filter.{analysis}
 use Rattle.analysis.proofs.lpc_analysis_filter.silk_LPC_analysis_filter.Goals as goal
 
 pub returns : goal.returns

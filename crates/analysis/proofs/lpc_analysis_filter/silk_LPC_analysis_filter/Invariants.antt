@@ -1,13 +1,9 @@
 -- `analysis::lpc_analysis_filter::silk_LPC_analysis_filter` meets its contract. Assumes nothing.
-use mathlib.Core.Path.{◌≡◌, ◌∙◌}
+use mathlib.Core.Path.{◌≡◌}
 use Prim.Native.Nat.{◌-◌, ◌≤◌}
-use native.Mathlib.Omega.{arith}
-use lib.ListN.{length, length-set}
+use lib.ListN.{length}
 use Rattle.fixed.specs.Iter.{iter}
-use Rattle.fixed.proofs.Fit.{got16}
-use Rattle.fixed.proofs.Iters.{iter-more}
-use Rattle.word_steps.specs.Filter.{filter_turn, clear_turn, analysis}
-use Rattle.std.proofs.Common.{rules}
+use Rattle.word_steps.specs.Filter.{filter_turn, clear_turn}
 use Rattle.analysis.proofs.lpc_analysis_filter.silk_LPC_analysis_filter.Given as goal
 
 abbrev pub invariant-loop-k : goal.invariant-loop-k

@@ -1,11 +1,9 @@
 -- `befores::before::before` meets its contract. Assumes nothing.
-use mathlib.Core.Path.{◌≡◌, ◌∙◌}
-use native.Mathlib.Omega.{arith}
+use mathlib.Core.Path.{◌∙◌}
 use mir.Syntax.{w32}
 use Rattle.fixed.proofs.Fit.{read, back}
 use Rattle.path.specs.Data.{running}
 use Rattle.befores.proofs.Befores.{before-is}
-use Rattle.std.proofs.Common.{rules}
 use Rattle.befores.proofs.before.before.Goals as goal
 
 pub returns : goal.returns
@@ -22,8 +20,8 @@ returns c =
           (running a.w a.lpc.now a.ring.now a.ltp.now dgain a.xq.now a.shp.now a.pulses.now)
           a.sltp c.flushed_first-u.result c.regained-v.result a.lpc.now _ a.ring.now _ a.ltp.now _ _ dgain xq _ _ out c.whitened_first-row.result
           (rw gain1 at (c.flushed_first-u.ensures.0 a.lpc.now a.ltp.now dgain))
-          e2.0
-          e2.1
+          e2.row
+          e2.work
           (rw (read f.prev) at (c.regained-v.ensures.0 dgain xq out)),
       c.regained-v.ensures.1 ∙ c.flushed_first-u.ensures.1,
     )

@@ -1,9 +1,7 @@
 -- `befores::middle::flushed_first` meets its contract. Assumes nothing.
-use mathlib.Core.Path.{◌≡◌, refl}
-use native.Mathlib.Omega.{arith}
+use mathlib.Core.Path.{refl}
 use Rattle.fixed.proofs.Fit.{read}
 use Rattle.steps.specs.Frame.{flushed_first}
-use Rattle.std.proofs.Common.{rules}
 use Rattle.befores.proofs.middle.flushed_first.Goals as goal
 
 pub returns-then-again : goal.returns-then-again

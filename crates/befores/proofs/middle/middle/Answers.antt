@@ -1,14 +1,10 @@
 -- `befores::middle::middle` meets its contract. Assumes nothing.
-use mathlib.Core.Path.{◌≡◌, refl, ap, ◌∙◌}
-use mathlib.Core.List.{List}
+use mathlib.Core.Path.{refl, ap, ◌∙◌}
 use Prim.Native.Nat.{ℕ}
-use native.Mathlib.Omega.{arith}
-use lib.IntN.{ℤ}
 use Rattle.fixed.proofs.Fit.{read}
 use Rattle.path.specs.Data.{Running, running}
 use Rattle.steps.specs.Flush.{Outs}
 use Rattle.steps.specs.Frame.{middle_by, middle_with, after_middle, flushed_run}
-use Rattle.std.proofs.Common.{rules}
 use Rattle.befores.proofs.middle.middle.Goals as goal
 
 pub returns : goal.returns

@@ -1,12 +1,11 @@
 -- `befores::regain::regained` meets its contract. Assumes nothing.
-use mathlib.Core.Path.{◌≡◌, refl, ◌∙◌}
+use mathlib.Core.Path.{refl, ◌∙◌}
 use mir.Syntax.{w32}
 use mir.Val.{SFits}
 use Rattle.fixed.proofs.Fit.{got32, read}
 use Rattle.path.proofs.Told.{fix}
 use Rattle.limits.proofs.Laws.{same-yes, same-no}
 use Rattle.steps.specs.Frame.{regained}
-use Rattle.std.proofs.Common.{rules}
 use Rattle.befores.proofs.regain.regained.Goals as goal
 
 pub returns-then-f-prev : goal.returns-then-f-prev

@@ -3,7 +3,6 @@ use mathlib.Core.Path.{◌≡◌}
 use Prim.Native.Nat.{◌+◌, ◌-◌}
 use native.Mathlib.Omega.{arith}
 use Rattle.steps.specs.Frame.{rewhitened}
-use Rattle.std.proofs.Common.{rules}
 use Rattle.befores.proofs.white.rewhitened.Goals as goal
 
 pub returns : goal.returns

@@ -1,15 +1,7 @@
 -- `calls::begin::start_lpc` meets its contract. Assumes nothing.
 use mathlib.Core.Path.{◌≡◌}
-use Prim.Native.Nat.{◌≤◌, ◌-◌}
 use native.Mathlib.Omega.{arith}
-use lib.ListN.{get_or}
-use lib.IntN.{pos}
-use mir.Syntax.{w32}
-use Rattle.fixed.proofs.Fit.{back}
-use Rattle.fixed.specs.Iter.{iter}
-use Rattle.fixed.proofs.Iters.{iter-more}
-use Rattle.steps.specs.Begin.{start_lpc, copy_turn}
-use Rattle.std.proofs.Common.{rules}
+use Rattle.steps.specs.Begin.{start_lpc}
 use Rattle.calls.proofs.begin.start_lpc.Goals as goal
 
 pub returns : goal.returns

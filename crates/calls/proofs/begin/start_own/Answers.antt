@@ -5,7 +5,6 @@ use mir.Syntax.{w32}
 use mir.Facts.{to_z_pos}
 use Rattle.fixed.proofs.Fit.{read}
 use Rattle.steps.specs.Begin.{own_from}
-use Rattle.std.proofs.Common.{rules}
 use Rattle.calls.proofs.begin.start_own.Goals as goal
 
 pub returns : goal.returns

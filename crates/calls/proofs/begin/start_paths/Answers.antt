@@ -1,15 +1,8 @@
 -- `calls::begin::start_paths` meets its contract. Assumes nothing.
-use mathlib.Core.Path.{◌≡◌, refl, ap, ◌∙◌}
-use Prim.Native.Nat.{◌≤◌, ◌-◌}
+use mathlib.Core.Path.{◌≡◌}
 use native.Mathlib.Omega.{arith}
-use mir.Syntax.{w32}
-use mir.Val.{to_z}
 use Rattle.fixed.proofs.Fit.{read}
-use Rattle.fixed.specs.Iter.{iter}
-use Rattle.fixed.proofs.Iters.{iter-more}
-use Rattle.path.specs.Data.{paths}
-use Rattle.steps.specs.Begin.{begun, begin_turn}
-use Rattle.std.proofs.Common.{rules}
+use Rattle.steps.specs.Begin.{begun}
 use Rattle.calls.proofs.begin.start_paths.Goals as goal
 
 pub returns : goal.returns

@@ -1,15 +1,9 @@
 -- `calls::begin::start_paths` meets its contract. Assumes nothing.
-use mathlib.Core.Path.{◌≡◌, refl, ap, ◌∙◌}
+use mathlib.Core.Path.{◌≡◌}
 use Prim.Native.Nat.{◌≤◌, ◌-◌}
-use native.Mathlib.Omega.{arith}
-use mir.Syntax.{w32}
-use mir.Val.{to_z}
-use Rattle.fixed.proofs.Fit.{read}
 use Rattle.fixed.specs.Iter.{iter}
-use Rattle.fixed.proofs.Iters.{iter-more}
 use Rattle.path.specs.Data.{paths}
-use Rattle.steps.specs.Begin.{begun, begin_turn}
-use Rattle.std.proofs.Common.{rules}
+use Rattle.steps.specs.Begin.{begin_turn}
 use Rattle.calls.proofs.begin.start_paths.Given as goal
 
 abbrev pub invariant-loop-k : goal.invariant-loop-k

@@ -1,7 +1,6 @@
 -- `calls::begin::start_rings` meets its contract. Assumes nothing.
 use Rattle.fixed.proofs.Fit.{read}
 use Rattle.steps.specs.Begin.{start_rings}
-use Rattle.std.proofs.Common.{rules}
 use Rattle.calls.proofs.begin.start_rings.Goals as goal
 
 pub returns : goal.returns

@@ -1,6 +1,5 @@
 -- `calls::call::delay` meets its contract. Assumes nothing.
 use Rattle.steps.specs.Call.{delay_by}
-use Rattle.std.proofs.Common.{rules}
 use Rattle.calls.proofs.call.delay.Goals as goal
 
 pub returns-then-voiced : goal.returns-then-voiced

@@ -4,7 +4,6 @@ use Rattle.fixed.proofs.Fit.{read, got32}
 use Rattle.silk.proofs.Told.{settings}
 use Rattle.limits.specs.Count.{nat_z}
 use Rattle.steps.specs.Call.{given_by, voiced_by, interpolated_by, delay_by}
-use Rattle.std.proofs.Common.{rules}
 use Rattle.calls.proofs.call.given_of.Goals as goal
 
 pub returns : goal.returns

@@ -5,7 +5,6 @@ use lib.IntN.{pos}
 use Rattle.fixed.proofs.Fit.{lit32}
 use Rattle.limits.proofs.Laws.{same_bits}
 use Rattle.steps.specs.Call.{interpolated_by}
-use Rattle.std.proofs.Common.{rules}
 use Rattle.calls.proofs.call.interpolated_by.Goals as goal
 
 pub returns : goal.returns

@@ -1,7 +1,6 @@
 -- `calls::call::lowered` meets its contract. Assumes nothing.
 use native.Mathlib.Omega.{arith}
 use Rattle.steps.specs.Call.{lowered}
-use Rattle.std.proofs.Common.{rules}
 use Rattle.calls.proofs.call.lowered.Goals as goal
 
 pub returns-then-lag-lt3 : goal.returns-then-lag-lt3

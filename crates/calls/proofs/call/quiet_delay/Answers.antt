@@ -2,7 +2,6 @@
 use borrow.Author.Tests.{lt-ltb, le-ltb}
 use native.Mathlib.Omega.{arith}
 use Rattle.steps.specs.Call.{quiet_delay}
-use Rattle.std.proofs.Common.{rules}
 use Rattle.calls.proofs.call.quiet_delay.Goals as goal
 
 pub returns-then-lagPrev-gt0 : goal.returns-then-lagPrev-gt0

@@ -3,7 +3,6 @@ use lib.IntN.{pos}
 use Rattle.fixed.proofs.Fit.{lit32}
 use Rattle.limits.proofs.Laws.{same_bits}
 use Rattle.steps.specs.Call.{voiced_by}
-use Rattle.std.proofs.Common.{rules}
 use Rattle.calls.proofs.call.voiced_by.Goals as goal
 
 pub returns : goal.returns

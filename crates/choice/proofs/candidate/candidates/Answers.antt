@@ -3,7 +3,6 @@ use mathlib.Core.Path.{ap, ◌∙◌}
 use Rattle.fixed.proofs.Fit.{read, got32}
 use Rattle.levels.proofs.Laws.{pair}
 use Rattle.choice.specs.RustChoice.{costed, choice}
-use Rattle.std.proofs.Common.{rules}
 use Rattle.choice.proofs.candidate.candidates.Goals as goal
 
 pub returns : goal.returns

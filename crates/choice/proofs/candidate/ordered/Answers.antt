@@ -1,7 +1,6 @@
 -- `choice::candidate::ordered` meets its contract. Assumes nothing.
 use Rattle.fixed.proofs.Fit.{read, test32}
 use Rattle.choice.specs.RustChoice.{ordered}
-use Rattle.std.proofs.Common.{rules}
 use Rattle.choice.proofs.candidate.ordered.Goals as goal
 
 pub returns-then-rd1-rd2 : goal.returns-then-rd1-rd2

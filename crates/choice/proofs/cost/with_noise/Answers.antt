@@ -2,7 +2,6 @@
 use mathlib.Core.Path.{◌∙◌}
 use Rattle.fixed.proofs.Fit.{read, got32}
 use Rattle.choice.specs.RustChoice.{with_noise}
-use Rattle.std.proofs.Common.{rules}
 use Rattle.choice.proofs.cost.with_noise.Goals as goal
 
 pub returns : goal.returns

@@ -7,7 +7,6 @@ use Rattle.silk.specs.declared.structs.NsqState.{NsqState}
 use Rattle.silk.specs.declared.structs.Settings.{Settings}
 use Rattle.steps.specs.Call.{call_of}
 use Rattle.cleaning.specs.Cleaned.{kept_at, harm_counts, cleaned}
-use Rattle.std.proofs.Common.{rules}
 use Rattle.cleaning.proofs.call.clean.Goals as goal
 
 -- a call by its parts

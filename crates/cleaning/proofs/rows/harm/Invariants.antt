@@ -1,18 +1,10 @@
 -- `cleaning::rows::harm` meets its contract. Assumes nothing.
-use Prim.Native.Nat.{ℕ, ◌≤◌, ◌-◌}
-use mathlib.Core.Path.{◌≡◌, refl, ap, ◌∙◌}
-use mathlib.Core.Bool.{Bool, not}
-use native.Mathlib.Omega.{arith}
-use lib.ListN.{length, length-set, set}
-use mir.Syntax.{w32}
+use Prim.Native.Nat.{◌≤◌, ◌-◌}
+use mathlib.Core.Path.{◌≡◌}
+use lib.ListN.{length}
 use Rattle.fixed.specs.Iter.{iter}
-use Rattle.fixed.specs.Row.{word}
-use Rattle.fixed.proofs.Fit.{back, got32, read}
-use Rattle.fixed.proofs.Iters.{iter-more}
-use Rattle.cleaning.specs.Cleaned.{kept_if, kept_at, harm_counts}
+use Rattle.cleaning.specs.Cleaned.{kept_if}
 use Rattle.cleaning.specs.Turns.{place_turn}
-use Rattle.cleaning.proofs.Loops.{loop-kept}
-use Rattle.std.proofs.Common.{rules}
 use Rattle.cleaning.proofs.rows.harm.Given as goal
 
 abbrev pub invariant-loop-i : goal.invariant-loop-i

@@ -2,7 +2,6 @@
 use mathlib.Core.Path.{refl}
 use Rattle.fixed.proofs.Fit.{read}
 use Rattle.cleaning.specs.Cleaned.{kept_if}
-use Rattle.std.proofs.Common.{rules}
 use Rattle.cleaning.proofs.rows.kept16.Goals as goal
 
 pub returns-then-counts : goal.returns-then-counts

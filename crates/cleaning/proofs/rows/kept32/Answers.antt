@@ -2,7 +2,6 @@
 use mathlib.Core.Path.{refl}
 use Rattle.cleaning.specs.Cleaned.{kept_if}
 use Rattle.fixed.proofs.Fit.{read}
-use Rattle.std.proofs.Common.{rules}
 use Rattle.cleaning.proofs.rows.kept32.Goals as goal
 
 pub returns-then-counts : goal.returns-then-counts

@@ -1,17 +1,9 @@
 -- `cleaning::rows::lags` meets its contract. Assumes nothing.
-use Prim.Native.Nat.{◌≤◌, ◌-◌}
-use mathlib.Core.Path.{◌≡◌, refl, ap, ◌∙◌}
+use mathlib.Core.Path.{◌∙◌}
 use native.Mathlib.Omega.{arith}
-use lib.ListN.{length, length-set, set}
-use mir.Syntax.{w32}
-use Rattle.fixed.specs.Iter.{iter}
-use Rattle.fixed.specs.Row.{word}
-use Rattle.fixed.proofs.Fit.{back, got32}
-use Rattle.fixed.proofs.Iters.{iter-more}
-use Rattle.cleaning.specs.Cleaned.{kept_if, lag_counts}
-use Rattle.cleaning.specs.Turns.{place_turn}
+use lib.ListN.{length}
+use Rattle.cleaning.specs.Cleaned.{lag_counts}
 use Rattle.cleaning.proofs.Loops.{loop-kept}
-use Rattle.std.proofs.Common.{rules}
 use Rattle.cleaning.proofs.rows.lags.Goals as goal
 
 pub returns : goal.returns

@@ -1,6 +1,5 @@
 -- `cleaning::rows::low` meets its contract. Assumes nothing.
 use Rattle.fixed.proofs.Wraps.{low16}
-use Rattle.std.proofs.Common.{rules}
 use Rattle.cleaning.proofs.rows.low.Goals as goal
 
 pub returns : goal.returns

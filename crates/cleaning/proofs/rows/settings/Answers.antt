@@ -7,7 +7,6 @@ use Rattle.silk.specs.declared.structs.Settings.{Settings}
 use Rattle.silk.proofs.Told.{settings}
 use Rattle.counts.specs.Conditions.{voiced}
 use Rattle.cleaning.specs.Cleaned.{kept_if, cleaned_settings}
-use Rattle.std.proofs.Common.{rules}
 use Rattle.cleaning.proofs.rows.settings.Goals as goal
 
 -- settings with this warping and this LTP scale

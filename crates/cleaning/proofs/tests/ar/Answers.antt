@@ -3,7 +3,6 @@ use Prim.Native.Nat.{◌%◌}
 use Rattle.silk.proofs.Told.{settings}
 use Rattle.cleaning.specs.Cleaned.{ar_counts}
 use Rattle.cleaning.proofs.Same.{below-back}
-use Rattle.std.proofs.Common.{rules}
 use Rattle.cleaning.proofs.tests.ar.Goals as goal
 
 pub returns : goal.returns

@@ -3,7 +3,6 @@ use mathlib.Core.Path.{◌≡◌, refl, sym, ◌∙◌}
 use mathlib.Core.Bool.{true, false}
 use Rattle.counts.specs.Conditions.{voiced}
 use Rattle.cleaning.specs.Cleaned.{lag_counts}
-use Rattle.std.proofs.Common.{rules}
 use Rattle.cleaning.proofs.tests.lag.Goals as goal
 
 pub returns-then-voiced : goal.returns-then-voiced

@@ -4,7 +4,6 @@ use mathlib.Core.Bool.{true, false}
 use Rattle.fixed.proofs.Fit.{read}
 use Rattle.counts.specs.Conditions.{voiced, no_lag}
 use Rattle.cleaning.proofs.Same.{same_back}
-use Rattle.std.proofs.Common.{rules}
 use Rattle.cleaning.proofs.tests.no_lag.Goals as goal
 
 pub returns-then-voiced : goal.returns-then-voiced

@@ -3,7 +3,6 @@ use mathlib.Core.Path.{refl}
 use Rattle.silk.proofs.Told.{settings}
 use Rattle.counts.specs.Conditions.{one_row}
 use Rattle.cleaning.proofs.Same.{same_back}
-use Rattle.std.proofs.Common.{rules}
 use Rattle.cleaning.proofs.tests.one_row.Goals as goal
 
 pub returns : goal.returns

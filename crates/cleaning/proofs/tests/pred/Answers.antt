@@ -2,7 +2,6 @@
 use mathlib.Core.Path.{◌≡◌, refl, sym, ◌∙◌}
 use mathlib.Core.Bool.{true, false}
 use Rattle.cleaning.specs.Cleaned.{row0_counts, pred_counts}
-use Rattle.std.proofs.Common.{rules}
 use Rattle.cleaning.proofs.tests.pred.Goals as goal
 
 pub returns-then-row0 : goal.returns-then-row0

@@ -5,7 +5,6 @@ use Rattle.silk.proofs.Told.{settings}
 use Rattle.counts.specs.Conditions.{one_row}
 use Rattle.cleaning.specs.Cleaned.{row0_counts}
 use Rattle.cleaning.proofs.Same.{below-back}
-use Rattle.std.proofs.Common.{rules}
 use Rattle.cleaning.proofs.tests.row0.Goals as goal
 
 pub returns-then-one_row : goal.returns-then-one_row

@@ -7,7 +7,6 @@ use Rattle.silk.proofs.Told.{settings}
 use Rattle.counts.specs.Conditions.{row_zero_only}
 use Rattle.cleaning.specs.Cleaned.{row1_counts}
 use Rattle.cleaning.proofs.Same.{below-back}
-use Rattle.std.proofs.Common.{rules}
 use Rattle.cleaning.proofs.tests.row1.Goals as goal
 
 pub returns-then-row_zero_only : goal.returns-then-row_zero_only

@@ -4,7 +4,6 @@ use mathlib.Core.Bool.{true, false}
 use lib.IntN.{pos}
 use Rattle.limits.specs.Count.{same_z}
 use Rattle.counts.specs.Conditions.{row_zero_only}
-use Rattle.std.proofs.Common.{rules}
 use Rattle.cleaning.proofs.tests.row_zero_only.Goals as goal
 
 pub returns-then-two : goal.returns-then-two

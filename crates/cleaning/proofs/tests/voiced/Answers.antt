@@ -4,7 +4,6 @@ use Rattle.silk.proofs.Told.{settings}
 use Rattle.steps.specs.Call.{voiced_by}
 use Rattle.counts.specs.Conditions.{voiced}
 use Rattle.cleaning.proofs.Same.{same_back}
-use Rattle.std.proofs.Common.{rules}
 use Rattle.cleaning.proofs.tests.voiced.Goals as goal
 
 pub returns : goal.returns

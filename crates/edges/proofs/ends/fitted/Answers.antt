@@ -3,7 +3,6 @@ use mathlib.Core.Path.{◌∙◌}
 use mir.Syntax.{w16}
 use Rattle.fixed.proofs.Fit.{back, got32, read}
 use Rattle.steps.specs.Flush.{fit_middle, fit_last}
-use Rattle.std.proofs.Common.{rules}
 use Rattle.edges.proofs.ends.fitted.Goals as goal
 
 pub returns-then-middle : goal.returns-then-middle

@@ -1,17 +1,15 @@
 -- `edges::ends::flushed` meets its contract. Assumes nothing.
-use mathlib.Core.Path.{◌≡◌, refl, ap, ◌∙◌}
-use Prim.Native.Nat.{ℕ, ◌≤◌, ◌-◌}
+use mathlib.Core.Path.{◌≡◌, ap, ◌∙◌}
+use Prim.Native.Nat.{ℕ}
 use native.Mathlib.Omega.{arith}
 use lib.IntN.{ℤ}
-use lib.ListN.{length, length-set}
+use lib.ListN.{length-set}
 use mir.Syntax.{w8, w16, w32}
-use mir.Val.{to_z}
 use Rattle.fixed.proofs.Fit.{back, read}
 use Rattle.fixed.specs.Iter.{iter, either}
 use Rattle.fixed.proofs.Iters.{iter-more}
 use Rattle.noise.specs.Output.{pulse_of}
 use Rattle.steps.specs.Flush.{flushed, flush_turn, flush_at, outs, fit_middle, fit_last}
-use Rattle.std.proofs.Common.{rules}
 use Rattle.edges.proofs.ends.flushed.Goals as goal
 
 pub loop-i-preserved : goal.loop-i-preserved

@@ -1,17 +1,10 @@
 -- `edges::ends::flushed` meets its contract. Assumes nothing.
-use mathlib.Core.Path.{◌≡◌, refl, ap, ◌∙◌}
-use Prim.Native.Nat.{ℕ, ◌≤◌, ◌-◌}
-use native.Mathlib.Omega.{arith}
+use mathlib.Core.Path.{◌≡◌}
+use Prim.Native.Nat.{◌≤◌, ◌-◌}
 use lib.IntN.{ℤ}
-use lib.ListN.{length, length-set}
-use mir.Syntax.{w8, w16, w32}
-use mir.Val.{to_z}
-use Rattle.fixed.proofs.Fit.{back, read}
+use lib.ListN.{length}
 use Rattle.fixed.specs.Iter.{iter, either}
-use Rattle.fixed.proofs.Iters.{iter-more}
-use Rattle.noise.specs.Output.{pulse_of}
-use Rattle.steps.specs.Flush.{flushed, flush_turn, flush_at, outs, fit_middle, fit_last}
-use Rattle.std.proofs.Common.{rules}
+use Rattle.steps.specs.Flush.{flush_turn, outs, fit_middle, fit_last}
 use Rattle.edges.proofs.ends.flushed.Given as goal
 
 abbrev pub invariant-loop-i : goal.invariant-loop-i

@@ -1,7 +1,6 @@
 -- `edges::ends::other` meets its contract. Assumes nothing.
 use borrow.Author.Tests.{eq-eqb, ne_eqb}
 use Rattle.steps.specs.Flush.{other_path}
-use Rattle.std.proofs.Common.{rules}
 use Rattle.edges.proofs.ends.other.Goals as goal
 
 pub returns-then-k-w : goal.returns-then-k-w

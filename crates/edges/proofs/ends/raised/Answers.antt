@@ -3,7 +3,6 @@ use mathlib.Core.Path.{◌∙◌}
 use Rattle.fixed.proofs.Fit.{got32}
 use Rattle.path.proofs.Told.{path}
 use Rattle.steps.specs.Flush.{raised_path}
-use Rattle.std.proofs.Common.{rules}
 use Rattle.edges.proofs.ends.raised.Goals as goal
 
 pub returns : goal.returns

@@ -1,10 +1,6 @@
 -- `fixed::wrap::high16` meets its contract. Assumes nothing.
-use mathlib.Core.Path.{◌∙◌, subst⁻¹}
-use mir.Syntax.{w16}
-use mir.Val.{SFits}
 use Rattle.fixed.specs.Shift.{shr}
 use Rattle.fixed.proofs.Fit.{read, fit-high, fit16-32}
-use Rattle.std.proofs.Common.{rules}
 use Rattle.fixed.proofs.wrap.high16.Goals as goal
 
 pub returns : goal.returns

@@ -4,7 +4,6 @@ use mir.Facts.{to_z-of_z}
 use mir.Syntax.{w16}
 use mir.Val.{SFits}
 use Rattle.fixed.proofs.Wraps as W
-use Rattle.std.proofs.Common.{rules}
 use Rattle.fixed.proofs.wrap.low16.Goals as goal
 
 pub overflow_cast-result : goal.overflow_cast-result

@@ -4,7 +4,6 @@ use mir.Facts.{to_z-of_z}
 use mir.Syntax.{w8}
 use mir.Val.{SFits}
 use Rattle.fixed.proofs.Wraps as W
-use Rattle.std.proofs.Common.{rules}
 use Rattle.fixed.proofs.wrap.low8.Goals as goal
 
 pub overflow_cast-result : goal.overflow_cast-result

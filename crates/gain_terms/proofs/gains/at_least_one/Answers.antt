@@ -5,7 +5,6 @@ use lib.IntN.{pos}
 use Rattle.fixed.proofs.Fit.{read, test32, lit32}
 use Rattle.fixed.proofs.Lin.{le-of-lin, lt-true}
 use Rattle.word_steps.specs.Gains.{at_least_one}
-use Rattle.std.proofs.Common.{rules}
 use Rattle.gain_terms.proofs.gains.at_least_one.Goals as goal
 
 pub returns-then-gain-gt1 : goal.returns-then-gain-gt1

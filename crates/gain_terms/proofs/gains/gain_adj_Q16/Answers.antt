@@ -2,7 +2,6 @@
 use mathlib.Core.Path.{◌∙◌}
 use Rattle.word_steps.specs.Gains.{gain_adj_Q16}
 use Rattle.fixed.proofs.Fit.{read, got32}
-use Rattle.std.proofs.Common.{rules}
 use Rattle.gain_terms.proofs.gains.gain_adj_Q16.Goals as goal
 
 pub returns : goal.returns

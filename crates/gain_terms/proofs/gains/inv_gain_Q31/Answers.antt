@@ -2,7 +2,6 @@
 use mathlib.Core.Path.{◌∙◌}
 use Rattle.word_steps.specs.Gains.{inv_gain_Q31}
 use Rattle.fixed.proofs.Fit.{read, got32}
-use Rattle.std.proofs.Common.{rules}
 use Rattle.gain_terms.proofs.gains.inv_gain_Q31.Goals as goal
 
 pub returns : goal.returns

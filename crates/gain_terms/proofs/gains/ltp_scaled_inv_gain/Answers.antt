@@ -2,7 +2,6 @@
 use mathlib.Core.Path.{◌∙◌}
 use Rattle.word_steps.specs.Gains.{ltp_scaled_inv_gain}
 use Rattle.fixed.proofs.Fit.{read, got32, got16}
-use Rattle.std.proofs.Common.{rules}
 use Rattle.gain_terms.proofs.gains.ltp_scaled_inv_gain.Goals as goal
 
 pub returns : goal.returns

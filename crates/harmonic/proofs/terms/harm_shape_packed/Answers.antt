@@ -2,7 +2,6 @@
 use mathlib.Core.Path.{◌∙◌}
 use Rattle.fixed.proofs.Fit.{read, got32}
 use Rattle.word_steps.specs.Harmonic.{packed_gain}
-use Rattle.std.proofs.Common.{rules}
 use Rattle.harmonic.proofs.terms.harm_shape_packed.Goals as goal
 
 pub returns : goal.returns

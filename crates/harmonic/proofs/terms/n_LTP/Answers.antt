@@ -2,7 +2,6 @@
 use mathlib.Core.Path.{◌∙◌}
 use Rattle.fixed.proofs.Fit.{read, got32, got16}
 use Rattle.word_steps.specs.Harmonic.{shaped_lag, ltp_term}
-use Rattle.std.proofs.Common.{rules}
 use Rattle.harmonic.proofs.terms.n_LTP.Goals as goal
 
 pub returns : goal.returns

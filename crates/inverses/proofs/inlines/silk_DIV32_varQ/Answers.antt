@@ -2,7 +2,6 @@
 use mathlib.Core.Path.{◌∙◌}
 use Rattle.word_steps.specs.Inlines.{silk_DIV32_varQ}
 use Rattle.fixed.proofs.Fit.{read, got32}
-use Rattle.std.proofs.Common.{rules}
 use Rattle.inverses.proofs.inlines.silk_DIV32_varQ.Goals as goal
 
 pub returns : goal.returns

@@ -5,7 +5,6 @@ use Rattle.fixed.specs.Shift.{shr}
 use Rattle.word_steps.specs.Inlines.{b32_inv}
 use Rattle.fixed.proofs.Fit.{read, fit-shr}
 use Rattle.inverses.proofs.Head.{inv-fits}
-use Rattle.std.proofs.Common.{rules}
 use Rattle.inverses.proofs.inverse.b32_inv.Goals as goal
 
 pub returns : goal.returns

@@ -6,7 +6,6 @@ use Rattle.fixed.specs.Shift.{clz32}
 use Rattle.word_steps.specs.Inlines.{headrm}
 use Rattle.fixed.proofs.Fit.{read, got32}
 use Rattle.inverses.proofs.Head.{room}
-use Rattle.std.proofs.Common.{rules}
 use Rattle.inverses.proofs.inverse.headrm.Goals as goal
 
 -- what the count gives

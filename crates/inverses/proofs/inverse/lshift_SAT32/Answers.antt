@@ -2,7 +2,6 @@
 use mathlib.Core.Path.{◌∙◌}
 use Rattle.word_steps.specs.Inlines.{lshift_SAT32}
 use Rattle.fixed.proofs.Fit.{read, got32}
-use Rattle.std.proofs.Common.{rules}
 use Rattle.inverses.proofs.inverse.lshift_SAT32.Goals as goal
 
 pub returns : goal.returns

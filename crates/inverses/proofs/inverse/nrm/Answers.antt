@@ -5,7 +5,6 @@ use mir.Val.{to_z, of_z}
 use Rattle.word_steps.specs.Inlines.{nrm}
 use Rattle.fixed.proofs.Fit.{read, got32}
 use Rattle.inverses.proofs.Head.{nrm-low}
-use Rattle.std.proofs.Common.{rules}
 use Rattle.inverses.proofs.inverse.nrm.Goals as goal
 
 same : (c : goal.After-shl32) → to_z w32 (of_z w32 c.shl32.result) ≡ nrm c.args.x

@@ -2,7 +2,6 @@
 use mathlib.Core.Path.{◌∙◌}
 use Rattle.word_steps.specs.Inlines.{refined, err_Q32}
 use Rattle.fixed.proofs.Fit.{read, got32, got16}
-use Rattle.std.proofs.Common.{rules}
 use Rattle.inverses.proofs.inverse.refined.Goals as goal
 
 pub returns : goal.returns

@@ -2,7 +2,6 @@
 use mathlib.Core.Path.{◌∙◌}
 use Rattle.word_steps.specs.Inlines.{result_2, rest, result_1}
 use Rattle.fixed.proofs.Fit.{read, got32, got16}
-use Rattle.std.proofs.Common.{rules}
 use Rattle.inverses.proofs.inverse.result_2.Goals as goal
 
 pub returns : goal.returns

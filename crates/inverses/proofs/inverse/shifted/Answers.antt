@@ -3,7 +3,6 @@ use mathlib.Core.Path.{◌∙◌}
 use borrow.Author.Tests.{le-leb, lt-leb, lt-ltb, le-ltb}
 use Rattle.word_steps.specs.Inlines.{shifted}
 use Rattle.fixed.proofs.Fit.{read, got32}
-use Rattle.std.proofs.Common.{rules}
 use Rattle.inverses.proofs.inverse.shifted.Goals as goal
 
 pub returns-then-down-up : goal.returns-then-down-up

@@ -1,10 +1,7 @@
 -- `leaving::emission::emit` meets its contract. Assumes nothing.
-use mathlib.Core.Path.{◌≡◌, ◌∙◌, sym}
+use mathlib.Core.Path.{◌∙◌, sym}
 use native.Mathlib.Omega.{arith}
-use mir.Syntax.{w8, w16}
-use Rattle.fixed.proofs.Fit.{back, read}
 use Rattle.leaving.proofs.LeftIn.{left_in}
-use Rattle.std.proofs.Common.{rules}
 use Rattle.leaving.proofs.emission.emit.Goals as goal
 
 pub overflow_sub-p : goal.overflow_sub-p

@@ -1,6 +1,5 @@
 -- `leaving::emission::leaves` meets its contract. Assumes nothing.
 use Rattle.steps.specs.Leaving.{leaves}
-use Rattle.std.proofs.Common.{rules}
 use Rattle.leaving.proofs.emission.leaves.Goals as goal
 
 pub returns-then-f : goal.returns-then-f

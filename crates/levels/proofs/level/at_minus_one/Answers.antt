@@ -2,7 +2,6 @@
 use mathlib.Core.Path.{◌∙◌}
 use Rattle.fixed.proofs.Fit.{read, got32}
 use Rattle.levels.specs.Levels.{at_minus_one}
-use Rattle.std.proofs.Common.{rules}
 use Rattle.levels.proofs.level.at_minus_one.Goals as goal
 
 pub returns : goal.returns

@@ -10,7 +10,6 @@ use mir.Val.{to_z, of_z}
 use Rattle.fixed.proofs.Fit.{read, test32, lit32}
 use Rattle.fixed.proofs.Lin.{lt-true, lt-false}
 use Rattle.levels.specs.Levels.{above, below, tried}
-use Rattle.std.proofs.Common.{rules}
 use Rattle.levels.proofs.level.tried.Goals as goal
 
 tried-above : (p o l : ℤ) → lt_z (pos 0) p ≡ true → tried p o l ≡ above p o l

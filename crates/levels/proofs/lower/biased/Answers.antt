@@ -3,7 +3,6 @@ use mathlib.Core.Path.{◌∙◌}
 use lib.IntN.{pos}
 use Rattle.fixed.proofs.Fit.{read, got32, test32, lit32}
 use Rattle.levels.specs.Levels.{biased}
-use Rattle.std.proofs.Common.{rules}
 use Rattle.levels.proofs.lower.biased.Goals as goal
 
 pub returns-then-q-bias : goal.returns-then-q-bias

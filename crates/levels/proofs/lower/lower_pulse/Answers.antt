@@ -1,12 +1,9 @@
 -- `levels::lower::lower_pulse` meets its contract. Assumes nothing.
 use mathlib.Core.Path.{◌∙◌}
-use Prim.Native.Nat.{◌<◌}
 use lib.IntN.{pos}
-use lib.Dec.{lit<}
 use Rattle.fixed.proofs.Fit.{read, got32, test32, lit32}
 use Rattle.levels.proofs.Laws.{fit-halved}
 use Rattle.levels.specs.Levels.{q1_Q0}
-use Rattle.std.proofs.Common.{rules}
 use Rattle.levels.proofs.lower.lower_pulse.Goals as goal
 
 pub returns-then-lambda-gt2048 : goal.returns-then-lambda-gt2048

@@ -1,7 +1,6 @@
 -- `limits::gains::gain_refused` meets its contract. Assumes nothing.
 use Rattle.fixed.proofs.Fit.{read}
 use Rattle.limits.specs.Tests.{gain_refused}
-use Rattle.std.proofs.Common.{rules}
 use Rattle.limits.proofs.gains.gain_refused.Goals as goal
 
 pub returns : goal.returns

@@ -2,7 +2,6 @@
 use mathlib.Core.Path.{◌≡◌, sym, ap, ◌∙◌}
 use Rattle.fixed.proofs.Fit.{read}
 use Rattle.limits.specs.Tests.{gains_refused, gain_refused}
-use Rattle.std.proofs.Common.{rules}
 use Rattle.limits.proofs.gains.gains_refused.Goals as goal
 
 pub returns-then-gain_refused : goal.returns-then-gain_refused

@@ -1,15 +1,8 @@
 -- `limits::gains::some_gain` meets its contract. Assumes nothing.
-use mathlib.Core.Path.{◌≡◌, refl}
-use mathlib.Core.Bool.{false, ◌||◌}
-use Prim.Native.Nat.{◌≤◌, ◌-◌}
+use mathlib.Core.Path.{◌≡◌}
 use native.Mathlib.Omega.{arith}
-use lib.ListN.{length, get_or}
-use lib.IntN.{pos}
-use mir.Syntax.{w32}
-use Rattle.fixed.proofs.Fit.{back}
-use Rattle.fixed.proofs.Iters.{iter-more}
-use Rattle.limits.specs.Tests.{some_gain, gain_refused, some}
-use Rattle.std.proofs.Common.{rules}
+use lib.ListN.{length}
+use Rattle.limits.specs.Tests.{some_gain}
 use Rattle.limits.proofs.gains.some_gain.Goals as goal
 
 pub returns : goal.returns

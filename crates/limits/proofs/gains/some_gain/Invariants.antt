@@ -1,15 +1,9 @@
 -- `limits::gains::some_gain` meets its contract. Assumes nothing.
-use mathlib.Core.Path.{◌≡◌, refl}
-use mathlib.Core.Bool.{false, ◌||◌}
+use mathlib.Core.Path.{◌≡◌}
 use Prim.Native.Nat.{◌≤◌, ◌-◌}
-use native.Mathlib.Omega.{arith}
 use lib.ListN.{length, get_or}
 use lib.IntN.{pos}
-use mir.Syntax.{w32}
-use Rattle.fixed.proofs.Fit.{back}
-use Rattle.fixed.proofs.Iters.{iter-more}
-use Rattle.limits.specs.Tests.{some_gain, gain_refused, some}
-use Rattle.std.proofs.Common.{rules}
+use Rattle.limits.specs.Tests.{gain_refused, some}
 use Rattle.limits.proofs.gains.some_gain.Given as goal
 
 abbrev pub invariant-loop-k : goal.invariant-loop-k

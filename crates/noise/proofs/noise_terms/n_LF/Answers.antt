@@ -2,7 +2,6 @@
 use mathlib.Core.Path.{◌∙◌}
 use Rattle.fixed.proofs.Fit.{read, got32, got16}
 use Rattle.noise.specs.NoiseTerms.{lf_term}
-use Rattle.std.proofs.Common.{rules}
 use Rattle.noise.proofs.noise_terms.n_LF.Goals as goal
 
 pub returns : goal.returns

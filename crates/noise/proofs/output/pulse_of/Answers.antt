@@ -3,7 +3,6 @@ use mathlib.Core.Path.{◌∙◌}
 use mir.Syntax.{w8}
 use Rattle.fixed.proofs.Fit.{read, got32, back}
 use Rattle.noise.specs.Output.{pulse_of}
-use Rattle.std.proofs.Common.{rules}
 use Rattle.noise.proofs.output.pulse_of.Goals as goal
 
 pub returns : goal.returns

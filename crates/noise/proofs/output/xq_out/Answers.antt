@@ -2,7 +2,6 @@
 use mathlib.Core.Path.{◌∙◌}
 use Rattle.fixed.proofs.Fit.{read, got32, got16}
 use Rattle.noise.specs.Output.{xq_out}
-use Rattle.std.proofs.Common.{rules}
 use Rattle.noise.proofs.output.xq_out.Goals as goal
 
 pub returns : goal.returns

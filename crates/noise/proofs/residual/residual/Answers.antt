@@ -2,7 +2,6 @@
 use mathlib.Core.Path.{◌∙◌}
 use Rattle.fixed.proofs.Fit.{read, got32}
 use Rattle.noise.specs.Residual.{predicted, residual}
-use Rattle.std.proofs.Common.{rules}
 use Rattle.noise.proofs.residual.residual.Goals as goal
 
 pub returns : goal.returns

@@ -1,16 +1,8 @@
 -- `path::scaled::scaled_words` meets its contract. Assumes nothing.
-use mathlib.Core.Path.{◌≡◌, refl, ◌∙◌}
-use Prim.Native.Nat.{◌+◌, ◌≤◌, ◌-◌}
+use mathlib.Core.Path.{◌≡◌}
 use native.Mathlib.Omega.{arith}
-use lib.ListN.{length, length-set}
-use mir.Syntax.{w32}
-use mir.Val.{to_z}
-use Rattle.fixed.proofs.Fit.{back, got32, read}
-use Rattle.fixed.specs.Iter.{iter}
-use Rattle.fixed.proofs.Iters.{iter-more}
-use Rattle.fixed.specs.Row.{word}
-use Rattle.path.specs.Scaled.{scaled_words, scale_turn}
-use Rattle.std.proofs.Common.{rules}
+use Rattle.fixed.proofs.Fit.{read}
+use Rattle.path.specs.Scaled.{scaled_words}
 use Rattle.path.proofs.scaled.scaled_words.Goals as goal
 
 pub returns : goal.returns

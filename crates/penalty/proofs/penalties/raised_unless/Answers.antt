@@ -1,7 +1,6 @@
 -- `penalty::penalties::raised_unless` meets its contract. Assumes nothing.
 use borrow.Author.Tests.{eq-eqb, ne_eqb}
 use Rattle.penalty.specs.Penalty.{raised_unless, same_word}
-use Rattle.std.proofs.Common.{rules}
 use Rattle.penalty.proofs.penalties.raised_unless.Goals as goal
 
 pub returns-then-state-mark : goal.returns-then-state-mark

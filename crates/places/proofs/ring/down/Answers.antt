@@ -2,7 +2,6 @@
 use borrow.Author.Tests.{eq-eqb, ne_eqb}
 use native.Mathlib.Omega.{arith}
 use Rattle.places.specs.Places.{down}
-use Rattle.std.proofs.Common.{rules}
 use Rattle.places.proofs.ring.down.Goals as goal
 
 pub returns-then-r-eq0 : goal.returns-then-r-eq0

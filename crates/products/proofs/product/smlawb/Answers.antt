@@ -2,7 +2,6 @@
 use mathlib.Core.Path.{◌∙◌}
 use Rattle.fixed.proofs.Fit.{read, got32}
 use Rattle.products.specs.Product.{smlawb}
-use Rattle.std.proofs.Common.{rules}
 use Rattle.products.proofs.product.smlawb.Goals as goal
 
 pub returns : goal.returns

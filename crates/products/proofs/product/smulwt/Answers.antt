@@ -2,7 +2,6 @@
 use mathlib.Core.Path.{◌∙◌}
 use Rattle.fixed.proofs.Fit.{read, got32, got16}
 use Rattle.products.specs.Product.{smulwt}
-use Rattle.std.proofs.Common.{rules}
 use Rattle.products.proofs.product.smulwt.Goals as goal
 
 pub returns : goal.returns

@@ -1,10 +1,9 @@
 -- `products::product::smulww` meets its contract. Assumes nothing.
 use Prim.Native.Nat.{◌^◌}
 use mathlib.Core.Path.{◌∙◌}
-use Rattle.fixed.proofs.Fit.{fit, fit-mul, fit-shr, read, got32, wide32}
+use Rattle.fixed.proofs.Fit.{fit-mul, fit-shr, read, got32, wide32}
 use Rattle.products.specs.Product.{smulww}
 use Rattle.fixed.specs.Shift.{shr}
-use Rattle.std.proofs.Common.{rules}
 use Rattle.products.proofs.product.smulww.Goals as goal
 
 pub returns : goal.returns

@@ -1,7 +1,6 @@
 -- `program_words::bits::min32` meets its contract. Assumes nothing.
 use Rattle.fixed.specs.Range.{min_z}
 use Rattle.fixed.proofs.Fit.{read, test32}
-use Rattle.std.proofs.Common.{rules}
 use Rattle.program_words.proofs.bits.min32.Goals as goal
 
 pub returns-then-a-b : goal.returns-then-a-b

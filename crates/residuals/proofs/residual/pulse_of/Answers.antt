@@ -2,7 +2,6 @@
 use mathlib.Core.Path.{◌∙◌}
 use Rattle.fixed.proofs.Fit.{read, got32}
 use Rattle.residuals.specs.Residual.{pulse_of}
-use Rattle.std.proofs.Common.{rules}
 use Rattle.residuals.proofs.residual.pulse_of.Goals as goal
 
 pub returns : goal.returns

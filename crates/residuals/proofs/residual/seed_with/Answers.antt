@@ -2,7 +2,6 @@
 use mathlib.Core.Path.{◌∙◌}
 use Rattle.fixed.proofs.Fit.{read, got32}
 use Rattle.residuals.specs.Residual.{seed_with}
-use Rattle.std.proofs.Common.{rules}
 use Rattle.residuals.proofs.residual.seed_with.Goals as goal
 
 pub returns : goal.returns

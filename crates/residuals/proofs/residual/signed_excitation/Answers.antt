@@ -3,7 +3,6 @@ use mathlib.Core.Path.{◌∙◌}
 use lib.IntN.{pos}
 use Rattle.fixed.proofs.Fit.{read, got32, test32, lit32}
 use Rattle.residuals.specs.Residual.{turned, signed_excitation}
-use Rattle.std.proofs.Common.{rules}
 use Rattle.residuals.proofs.residual.signed_excitation.Goals as goal
 
 pub returns-then-seed-lt0 : goal.returns-then-seed-lt0

@@ -1,15 +1,8 @@
 -- `scaling::scale::filled` meets its contract. Assumes nothing.
-use mathlib.Core.Path.{◌≡◌, ◌∙◌}
-use Prim.Native.Nat.{◌+◌, ◌≤◌, ◌-◌}
-use native.Mathlib.Omega.{arith}
-use mir.Syntax.{w16, w32}
-use mir.Val.{to_z}
-use Rattle.fixed.proofs.Fit.{back, got32, read}
+use mathlib.Core.Path.{◌≡◌}
+use Prim.Native.Nat.{◌≤◌, ◌-◌}
 use Rattle.fixed.specs.Iter.{iter}
-use Rattle.fixed.proofs.Iters.{iter-more}
-use Rattle.fixed.specs.Row.{word}
-use Rattle.steps.specs.Scale.{filled, fill_turn}
-use Rattle.std.proofs.Common.{rules}
+use Rattle.steps.specs.Scale.{fill_turn}
 use Rattle.scaling.proofs.scale.filled.Given as goal
 
 abbrev pub invariant-loop-j : goal.invariant-loop-j

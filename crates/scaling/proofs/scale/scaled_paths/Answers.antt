@@ -1,16 +1,8 @@
 -- `scaling::scale::scaled_paths` meets its contract. Assumes nothing.
-use mathlib.Core.Path.{◌≡◌, refl, ap, ◌∙◌}
-use Prim.Native.Nat.{◌≤◌, ◌-◌}
+use mathlib.Core.Path.{◌≡◌}
 use native.Mathlib.Omega.{arith}
-use mir.Syntax.{w32}
-use mir.Val.{to_z, of_z}
 use Rattle.fixed.proofs.Fit.{read}
-use Rattle.fixed.specs.Iter.{iter}
-use Rattle.fixed.proofs.Iters.{iter-more}
-use Rattle.path.specs.Data.{paths}
-use Rattle.path.specs.Taken.{path_set}
-use Rattle.steps.specs.Scale.{scaled_paths, scale_path_turn}
-use Rattle.std.proofs.Common.{rules}
+use Rattle.steps.specs.Scale.{scaled_paths}
 use Rattle.scaling.proofs.scale.scaled_paths.Goals as goal
 
 pub returns : goal.returns

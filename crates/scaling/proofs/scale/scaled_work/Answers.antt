@@ -1,8 +1,6 @@
 -- `scaling::scale::scaled_work` meets its contract. Assumes nothing.
-use native.Mathlib.Omega.{arith}
 use Rattle.fixed.proofs.Fit.{read}
 use Rattle.steps.specs.Scale.{scaled_work}
-use Rattle.std.proofs.Common.{rules}
 use Rattle.scaling.proofs.scale.scaled_work.Goals as goal
 
 pub returns-then-rewhitened : goal.returns-then-rewhitened

@@ -1,12 +1,10 @@
 -- `scaling::scale::silk_nsq_del_dec_scale_states` meets its contract. Assumes nothing.
-use mathlib.Core.Path.{◌≡◌, refl, ap, ◌∙◌}
-use native.Mathlib.Omega.{arith}
+use mathlib.Core.Path.{refl, ap}
 use Prim.Native.Nat.{◌*◌}
 use Rattle.fixed.proofs.Fit.{read}
 use Rattle.path.specs.Data.{Paths, Running}
 use Rattle.path.specs.Scaled.{scaled_words}
 use Rattle.steps.specs.Scale.{scaled, scaled_work}
-use Rattle.std.proofs.Common.{rules}
 use Rattle.scaling.proofs.scale.silk_nsq_del_dec_scale_states.Goals as goal
 
 pub returns : goal.returns

@@ -5,8 +5,7 @@ use mir.Syntax.{w32}
 use Rattle.fixed.specs.Shift.{shr}
 use Rattle.fixed.proofs.Fit.{read, fit-shr}
 use Rattle.seeds.specs.Halves.{high_half}
-use Rattle.seeds.proofs.Halves.{masked, half-bits, unsigned-no-sign, unsigned-fits}
-use Rattle.std.proofs.Common.{rules}
+use Rattle.seeds.proofs.Halves.{masked, half-bits}
 use Rattle.seeds.proofs.generator.high_half.Goals as goal
 
 pub returns : goal.returns

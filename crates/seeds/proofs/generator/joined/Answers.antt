@@ -1,6 +1,5 @@
 -- `seeds::generator::joined` meets its contract. Assumes nothing.
 use Rattle.seeds.proofs.Halves.{put-together}
-use Rattle.std.proofs.Common.{rules}
 use Rattle.seeds.proofs.generator.joined.Goals as goal
 
 pub returns : goal.returns

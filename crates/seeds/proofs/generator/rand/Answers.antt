@@ -4,8 +4,7 @@ use Prim.Native.Nat.{ℕ, ◌%◌, ◌^◌}
 use native.Mathlib.Omega.{arith}
 use Rattle.fixed.proofs.Fit.{read, got32}
 use Rattle.seeds.specs.Halves.{low_word, high_word, joined, Narrow}
-use Rattle.seeds.proofs.Halves.{narrow, in_halves, mask, under}
-use Rattle.std.proofs.Common.{rules}
+use Rattle.seeds.proofs.Halves.{narrow, in_halves, mask}
 use Rattle.seeds.proofs.generator.rand.Goals as goal
 
 -- the halves that the two calls gave are narrow

@@ -4,7 +4,6 @@ use lib.IntN.{pos}
 use Rattle.fixed.proofs.Iters.{iter-add}
 use Rattle.fixed.proofs.Fit.{got32}
 use Rattle.shaping.specs.Taps.{tap, long_prediction}
-use Rattle.std.proofs.Common.{rules}
 use Rattle.shaping.proofs.long_prediction.ltp_prediction.Goals as goal
 
 pub returns : goal.returns

@@ -5,7 +5,6 @@ use lib.IntN.{pos}
 use Rattle.fixed.proofs.Fit.{got32}
 use Rattle.shaping.specs.Taps.{tap, short_prediction}
 use Rattle.shaping.proofs.TapCount.{runs-of-16, run-of-10}
-use Rattle.std.proofs.Common.{rules}
 use Rattle.shaping.proofs.short_prediction.silk_noise_shape_quantizer_short_prediction.Goals as goal
 
 pub returns-then-order-eq16 : goal.returns-then-order-eq16

@@ -3,7 +3,6 @@ use mathlib.Core.Path.{◌∙◌}
 use lib.IntN.{pos}
 use Rattle.fixed.specs.Range.{abs32}
 use Rattle.fixed.proofs.Fit.{read, test32, lit32, got32}
-use Rattle.std.proofs.Common.{rules}
 use Rattle.shifts.proofs.range.abs32.Goals as goal
 
 pub returns-then-x-gt0 : goal.returns-then-x-gt0

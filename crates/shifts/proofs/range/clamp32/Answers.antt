@@ -1,7 +1,6 @@
 -- `shifts::range::clamp32` meets its contract. Assumes nothing.
 use Rattle.fixed.specs.Range.{clamp}
 use Rattle.fixed.proofs.Fit.{read, test32}
-use Rattle.std.proofs.Common.{rules}
 use Rattle.shifts.proofs.range.clamp32.Goals as goal
 
 pub returns-then-v-hi : goal.returns-then-v-hi

@@ -8,7 +8,6 @@ use mir.Facts.{sfits_lit}
 use Rattle.fixed.specs.Range.{sat16, clamp}
 use Rattle.fixed.proofs.Lin.{lt-false, sfits-of-lin}
 use Rattle.fixed.proofs.Fit.{read, test32}
-use Rattle.std.proofs.Common.{rules}
 use Rattle.shifts.proofs.range.sat16.Goals as goal
 
 lo : SFits w32 (negsuc 32767)

@@ -1,9 +1,7 @@
 -- `shifts::shift::clz32` meets its contract. Assumes nothing.
 use lib.IntN.{pos}
-use mir.Facts.{Fits-nat_abs}
 use Rattle.fixed.specs.Shift.{clz32}
-use Rattle.fixed.proofs.Fit.{read, test32, lit32, not-below}
-use Rattle.std.proofs.Common.{rules}
+use Rattle.fixed.proofs.Fit.{read, test32, lit32}
 use Rattle.shifts.proofs.shift.clz32.Goals as goal
 
 pub returns-then-x-lt0 : goal.returns-then-x-lt0

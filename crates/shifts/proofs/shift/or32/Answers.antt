@@ -1,6 +1,6 @@
 -- `shifts::shift::or32` meets its contract. Assumes nothing.
-use mathlib.Core.Path.{◌≡◌, ◌∙◌, ap, refl}
-use Prim.Native.Nat.{◌^◌, ◌%◌}
+use mathlib.Core.Path.{◌≡◌, ◌∙◌, refl}
+use Prim.Native.Nat.{◌^◌}
 use native.Mathlib.Omega.{arith}
 use lib.IntN.{ℤ, pos, negsuc}
 use lib.Dec.{lit<}
@@ -11,7 +11,6 @@ use mir.Facts.{Fits-of_z}
 use Rattle.fixed.specs.Wrap.{mod_z, wrap32}
 use Rattle.fixed.specs.Shift.{or32}
 use Rattle.fixed.proofs.Wraps.{to_z-wraps}
-use Rattle.std.proofs.Common.{rules}
 use Rattle.shifts.proofs.shift.or32.Goals as goal
 
 -- the bits of a word are the word modulo 2^32

@@ -1,6 +1,6 @@
 -- `shifts::shift::rshift_round` meets its contract. Assumes nothing.
-use mathlib.Core.Path.{◌≡◌, ◌∙◌, ap, subst⁻¹}
-use Prim.Native.Nat.{ℕ, ◌-◌, ◌^◌, ◌≤◌}
+use mathlib.Core.Path.{◌≡◌, subst⁻¹}
+use Prim.Native.Nat.{◌-◌, ◌^◌}
 use native.Mathlib.Omega.{arith}
 use lib.IntN.{ℤ, pos, ◌+ℤ◌}
 use lib.Pow.{pow_mono}
@@ -9,7 +9,6 @@ use mir.Syntax.{w32}
 use mir.Val.{SFits, to_z, of_z}
 use Rattle.fixed.specs.Shift.{rround, shr}
 use Rattle.fixed.proofs.Fit.{read, fit-shr, fit-half}
-use Rattle.std.proofs.Common.{rules}
 use Rattle.shifts.proofs.shift.rshift_round.Goals as goal
 
 -- v, shifted, as it is read back

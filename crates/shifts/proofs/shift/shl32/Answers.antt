@@ -2,7 +2,6 @@
 use Prim.Native.Nat.{◌%◌, ◌^◌}
 use Rattle.fixed.proofs.Wraps as W
 use Rattle.fixed.specs.Shift.{shl32}
-use Rattle.std.proofs.Common.{rules}
 use Rattle.shifts.proofs.shift.shl32.Goals as goal
 
 pub returns : goal.returns

@@ -1,5 +1,4 @@
 -- `shifts::shift::shr32` meets its contract. Assumes nothing.
-use Prim.Native.Nat.{◌%◌, ◌^◌}
 use Rattle.fixed.specs.Shift.{shr32, shr}
 use Rattle.fixed.proofs.Fit.{fit}
 use Rattle.std.proofs.Common.{rules}

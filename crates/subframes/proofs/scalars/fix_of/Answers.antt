@@ -11,7 +11,6 @@ use Rattle.steps.proofs.Sound.{since-few, subframes-small}
 use Rattle.steps.proofs.Told.{given}
 use Rattle.steps.specs.declared.structs.Given.{Given}
 use Rattle.steps.specs.Call.{fix_by, lag_by, since_by}
-use Rattle.std.proofs.Common.{rules}
 use Rattle.subframes.proofs.scalars.fix_of.Goals as goal
 
 -- the subframes since the last output was held back are few too

@@ -6,7 +6,6 @@ use mir.Syntax.{w32}
 use Rattle.fixed.proofs.Fit.{back, got32}
 use Rattle.steps.proofs.Told.{given}
 use Rattle.steps.specs.Call.{halves_by}
-use Rattle.std.proofs.Common.{rules}
 use Rattle.subframes.proofs.scalars.halves_of.Goals as goal
 
 pub returns : goal.returns

@@ -4,7 +4,6 @@ use lib.IntN.{pos}
 use mir.Syntax.{w32}
 use Rattle.fixed.proofs.Fit.{back}
 use Rattle.steps.specs.Call.{lag_by}
-use Rattle.std.proofs.Common.{rules}
 use Rattle.subframes.proofs.scalars.lag_of.Goals as goal
 
 pub returns-then-g : goal.returns-then-g

@@ -1,7 +1,6 @@
 -- `subframes::scalars::rewhites` meets its contract. Assumes nothing.
 use borrow.Author.Tests.{eq-eqb, ne_eqb}
 use Rattle.steps.specs.Call.{rewhites_by}
-use Rattle.std.proofs.Common.{rules}
 use Rattle.subframes.proofs.scalars.rewhites.Goals as goal
 
 pub returns-then-k-eq0 : goal.returns-then-k-eq0

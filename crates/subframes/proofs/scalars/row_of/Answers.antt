@@ -1,6 +1,5 @@
 -- `subframes::scalars::row_of` meets its contract. Assumes nothing.
 use Rattle.steps.specs.Call.{row_by}
-use Rattle.std.proofs.Common.{rules}
 use Rattle.subframes.proofs.scalars.row_of.Goals as goal
 
 pub returns-then-g : goal.returns-then-g

@@ -1,7 +1,6 @@
 -- `subframes::scalars::second` meets its contract. Assumes nothing.
 use mathlib.Core.Path.{◌∙◌, sym}
 use Rattle.steps.specs.Call.{second_by}
-use Rattle.std.proofs.Common.{rules}
 use Rattle.subframes.proofs.scalars.second.Goals as goal
 
 pub returns-then-twice : goal.returns-then-twice

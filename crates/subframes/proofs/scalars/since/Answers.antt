@@ -7,7 +7,6 @@ use lib.Dec.{leb}
 use borrow.Author.Tests.{le-leb, lt-leb}
 use Rattle.fixed.specs.Iter.{either}
 use Rattle.steps.specs.Call.{since_by, twice_by}
-use Rattle.std.proofs.Common.{rules}
 use Rattle.subframes.proofs.scalars.since.Goals as goal
 
 -- before subframe 2 nothing is taken off

@@ -1,6 +1,5 @@
 -- `subframes::scalars::twice` meets its contract. Assumes nothing.
 use Rattle.steps.specs.Call.{twice_by}
-use Rattle.std.proofs.Common.{rules}
 use Rattle.subframes.proofs.scalars.twice.Goals as goal
 
 pub returns-then-g : goal.returns-then-g

@@ -5,7 +5,6 @@ use Rattle.fixed.proofs.Fit.{read, got32}
 use Rattle.word_steps.specs.Gains.{inv_gain_Q31}
 use Rattle.steps.proofs.Told.{given}
 use Rattle.steps.specs.Call.{white_by}
-use Rattle.std.proofs.Common.{rules}
 use Rattle.subframes.proofs.scalars.white_gain.Goals as goal
 
 pub returns-then-k-eq0 : goal.returns-then-k-eq0

@@ -1,14 +1,8 @@
 -- `tails::tail::moved_down16` meets its contract. Assumes nothing.
 use mathlib.Core.Path.{◌≡◌}
-use Prim.Native.Nat.{◌+◌, ◌≤◌, ◌-◌}
-use native.Mathlib.Omega.{arith}
-use mir.Syntax.{w16}
-use Rattle.fixed.proofs.Fit.{back}
+use Prim.Native.Nat.{◌≤◌, ◌-◌}
 use Rattle.fixed.specs.Iter.{iter}
-use Rattle.fixed.proofs.Iters.{iter-more}
-use Rattle.fixed.specs.Row.{word}
-use Rattle.word_steps.specs.Tail.{moved_down, down_turn}
-use Rattle.std.proofs.Common.{rules}
+use Rattle.word_steps.specs.Tail.{down_turn}
 use Rattle.tails.proofs.tail.moved_down16.Given as goal
 
 abbrev pub invariant-loop-j : goal.invariant-loop-j

@@ -1,14 +1,7 @@
 -- `tails::tail::words_from` meets its contract. Assumes nothing.
 use mathlib.Core.Path.{◌≡◌}
-use Prim.Native.Nat.{◌+◌, ◌≤◌, ◌-◌}
 use native.Mathlib.Omega.{arith}
-use mir.Syntax.{w32}
-use Rattle.fixed.proofs.Fit.{back}
-use Rattle.fixed.specs.Iter.{iter}
-use Rattle.fixed.proofs.Iters.{iter-more}
-use Rattle.fixed.specs.Row.{word}
-use Rattle.word_steps.specs.Tail.{words_from, words_turn}
-use Rattle.std.proofs.Common.{rules}
+use Rattle.word_steps.specs.Tail.{words_from}
 use Rattle.tails.proofs.tail.words_from.Goals as goal
 
 pub returns : goal.returns

@@ -1,18 +1,12 @@
 -- `warped::warped_filter::warped_filter` meets its contract. Assumes nothing.
-use Prim.Native.Nat.{◌+◌, ◌-◌, ◌≤◌}
+use Prim.Native.Nat.{◌-◌}
 use mathlib.Core.Path.{◌≡◌, ap, ◌∙◌}
-use mathlib.Core.List.{List}
-use lib.IntN.{ℤ, pos}
-use lib.ListN.{get_or}
 use native.Mathlib.Omega.{arith}
-use mir.Syntax.{w16, w32}
-use mir.Val.{to_z, of_z, SFits}
-use Rattle.fixed.specs.Iter.{iter}
+use mir.Syntax.{w16}
+use mir.Val.{to_z, of_z}
 use Rattle.fixed.proofs.Iters.{iter-more}
 use Rattle.fixed.proofs.Fit.{read, got32, got16}
-use Rattle.warped.specs.WarpedFilter.{Filter, turn, write, begin, warped_filter}
-use Rattle.warped.proofs.warped_filter.warped_filter.Invariants.{in_work}
-use Rattle.std.proofs.Common.{rules}
+use Rattle.warped.specs.WarpedFilter.{Filter, turn, write, warped_filter}
 use Rattle.warped.proofs.warped_filter.warped_filter.Goals as goal
 
 pub loop-j-preserved : goal.loop-j-preserved

@@ -1,17 +1,10 @@
 -- `warped::warped_filter::warped_filter` meets its contract. Assumes nothing.
 use Prim.Native.Nat.{◌+◌, ◌-◌, ◌≤◌}
-use mathlib.Core.Path.{◌≡◌, ap, ◌∙◌}
+use mathlib.Core.Path.{◌≡◌}
 use mathlib.Core.List.{List}
-use lib.IntN.{ℤ, pos}
-use lib.ListN.{get_or}
-use native.Mathlib.Omega.{arith}
-use mir.Syntax.{w16, w32}
-use mir.Val.{to_z, of_z, SFits}
+use lib.IntN.{ℤ}
 use Rattle.fixed.specs.Iter.{iter}
-use Rattle.fixed.proofs.Iters.{iter-more}
-use Rattle.fixed.proofs.Fit.{read, got32, got16}
-use Rattle.warped.specs.WarpedFilter.{Filter, turn, write, begin, warped_filter}
-use Rattle.std.proofs.Common.{rules}
+use Rattle.warped.specs.WarpedFilter.{Filter, turn, begin}
 use Rattle.warped.proofs.warped_filter.warped_filter.Given as goal
 
 -- the filter in work, as the code's locals hold it

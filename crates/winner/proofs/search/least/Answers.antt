@@ -1,8 +1,6 @@
 -- `winner::search::least` meets its contract. Assumes nothing.
 use mathlib.Core.Path.{◌≡◌, ◌∙◌, sym}
-use Prim.Native.Nat.{◌≤◌, ◌<◌, ◌-◌}
 use native.Mathlib.Omega.{arith}
-use Rattle.fixed.specs.Iter.{iter}
 use Rattle.fixed.proofs.Iters.{iter-more}
 use Rattle.path.specs.Data.{candidate_at}
 use Rattle.winner.specs.Winner.{least_of, least_turn}
@@ -19,12 +17,12 @@ loop-k-preserved c =
     let y = (candidate (candidate_at d c.loop-k.w a.m) c.struct_told-in-loop-k-1.given).rd in
     let turn = least_turn d a.m in
     elim c.if-x-y.branch [
-      then-x-y t ↦
-    let e : turn c.loop-k.k c.loop-k.w ≡ c.loop-k.k = rw (simp (x, y) at t.if-x-y.true) in
-    (omega (arith, t.w-is, c), t.w-is ∙ sym e ∙ iter-more turn _ _ _ c.loop-k.invariant.1)
-    | else-x-y t ↦
-    let e : turn c.loop-k.k c.loop-k.w ≡ c.loop-k.w = rw (simp (x, y) at t.if-x-y.false) in
-    (omega (arith, t.w-is, c), t.w-is ∙ sym e ∙ iter-more turn _ _ _ c.loop-k.invariant.1)
+      | then-x-y t ↦
+          let e : turn c.loop-k.k c.loop-k.w ≡ c.loop-k.k = rw (simp (x, y) at t.if-x-y.true) in
+          (omega (arith, t.w-is, c), t.w-is ∙ sym e ∙ iter-more turn _ _ _ c.loop-k.invariant.1)
+      | else-x-y t ↦
+          let e : turn c.loop-k.k c.loop-k.w ≡ c.loop-k.w = rw (simp (x, y) at t.if-x-y.false) in
+          (omega (arith, t.w-is, c), t.w-is ∙ sym e ∙ iter-more turn _ _ _ c.loop-k.invariant.1)
     ]
 
 pub returns : goal.returns

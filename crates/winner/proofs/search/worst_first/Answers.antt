@@ -1,8 +1,6 @@
 -- `winner::search::worst_first` meets its contract. Assumes nothing.
 use mathlib.Core.Path.{◌≡◌, ◌∙◌, sym}
-use Prim.Native.Nat.{◌≤◌, ◌<◌, ◌-◌}
 use native.Mathlib.Omega.{arith}
-use Rattle.fixed.specs.Iter.{iter}
 use Rattle.fixed.proofs.Iters.{iter-more}
 use Rattle.path.specs.Data.{candidate_at}
 use Rattle.winner.specs.Winner.{worst_of, worst_turn}
@@ -17,12 +15,12 @@ loop-k-preserved c =
     let y = (candidate (candidate_at d c.loop-k.w 0) c.struct_told-1.given).rd in
     let x = (candidate (candidate_at d c.loop-k.k 0) c.struct_told-in-loop-k-1.given).rd in
     elim c.if-y-x.branch [
-      then-y-x t ↦
-    let e : worst_turn d c.loop-k.k c.loop-k.w ≡ c.loop-k.k = rw (simp (x, y) at t.if-y-x.true) in
-    (omega (arith, t.w-is, c), t.w-is ∙ sym e ∙ iter-more (worst_turn d) _ _ _ c.loop-k.invariant.1)
-    | else-y-x t ↦
-    let e : worst_turn d c.loop-k.k c.loop-k.w ≡ c.loop-k.w = rw (simp (x, y) at t.if-y-x.false) in
-    (omega (arith, t.w-is, c), t.w-is ∙ sym e ∙ iter-more (worst_turn d) _ _ _ c.loop-k.invariant.1)
+      | then-y-x t ↦
+          let e : worst_turn d c.loop-k.k c.loop-k.w ≡ c.loop-k.k = rw (simp (x, y) at t.if-y-x.true) in
+          (omega (arith, t.w-is, c), t.w-is ∙ sym e ∙ iter-more (worst_turn d) _ _ _ c.loop-k.invariant.1)
+      | else-y-x t ↦
+          let e : worst_turn d c.loop-k.k c.loop-k.w ≡ c.loop-k.w = rw (simp (x, y) at t.if-y-x.false) in
+          (omega (arith, t.w-is, c), t.w-is ∙ sym e ∙ iter-more (worst_turn d) _ _ _ c.loop-k.invariant.1)
     ]
 
 pub returns : goal.returns

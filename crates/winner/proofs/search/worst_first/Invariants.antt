@@ -1,14 +1,8 @@
 -- `winner::search::worst_first` meets its contract. Assumes nothing.
-use mathlib.Core.Path.{◌≡◌, ◌∙◌, sym}
-use mathlib.Core.Logic.{⊎_elim}
+use mathlib.Core.Path.{◌≡◌}
 use Prim.Native.Nat.{◌≤◌, ◌<◌, ◌-◌}
-use native.Mathlib.Omega.{arith}
 use Rattle.fixed.specs.Iter.{iter}
-use Rattle.fixed.proofs.Iters.{iter-more}
-use Rattle.path.specs.Data.{candidate_at}
-use Rattle.winner.specs.Winner.{worst_of, worst_turn}
-use Rattle.path.proofs.Told.{candidate}
-use Rattle.std.proofs.Common.{rules}
+use Rattle.winner.specs.Winner.{worst_turn}
 use Rattle.winner.proofs.search.worst_first.Given as goal
 
 abbrev pub invariant-loop-k : goal.invariant-loop-k

@@ -3,7 +3,6 @@ use mathlib.Core.Path.{◌∙◌}
 use Rattle.fixed.proofs.Fit.{got32, read}
 use Rattle.path.specs.Path.{candidate_of}
 use Rattle.path.proofs.Told.{terms}
-use Rattle.std.proofs.Common.{rules}
 use Rattle.path.proofs.structs.Candidate.of.Goals as goal
 
 pub returns : goal.returns

@@ -3,7 +3,6 @@ use mathlib.Core.Path.{◌∙◌}
 use Rattle.fixed.proofs.Fit.{got32}
 use Rattle.path.specs.Taken.{raised}
 use Rattle.path.proofs.Told.{candidate}
-use Rattle.std.proofs.Common.{rules}
 use Rattle.path.proofs.structs.Candidate.raised.Goals as goal
 
 pub returns : goal.returns

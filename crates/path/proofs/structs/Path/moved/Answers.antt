@@ -1,11 +1,10 @@
 -- `path::structs::Path::moved` meets its contract. Assumes nothing.
 use mathlib.Core.Path.{◌≡◌, ◌∙◌}
-use Rattle.fixed.proofs.Fit.{got32, got16, read}
+use Rattle.fixed.proofs.Fit.{got32, got16}
 use Rattle.noise.specs.NoiseTerms.{ar_term}
 use Rattle.seeds.specs.Generator.{rand}
 use Rattle.path.specs.Path.{moved, filter_of}
 use Rattle.path.proofs.Told.{path, halves}
-use Rattle.std.proofs.Common.{rules}
 use Rattle.path.proofs.structs.Path.moved.Goals as goal
 
 pub returns : goal.returns

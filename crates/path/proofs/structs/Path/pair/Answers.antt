@@ -2,7 +2,6 @@
 use Rattle.fixed.proofs.Fit.{read}
 use Rattle.path.specs.Path.{pair}
 use Rattle.path.proofs.Told.{path, common}
-use Rattle.std.proofs.Common.{rules}
 use Rattle.path.proofs.structs.Path.pair.Goals as goal
 
 pub returns : goal.returns

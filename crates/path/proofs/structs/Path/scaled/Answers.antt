@@ -1,9 +1,8 @@
 -- `path::structs::Path::scaled` meets its contract. Assumes nothing.
-use mathlib.Core.Path.{◌≡◌, ◌∙◌}
+use mathlib.Core.Path.{◌∙◌}
 use Rattle.fixed.proofs.Fit.{got32, read}
 use Rattle.path.specs.Scaled.{scaled_path, scaled_own}
 use Rattle.path.proofs.Told.{path}
-use Rattle.std.proofs.Common.{rules}
 use Rattle.path.proofs.structs.Path.scaled.Goals as goal
 
 pub returns : goal.returns

@@ -3,7 +3,6 @@ use mathlib.Core.Path.{◌∙◌}
 use Rattle.fixed.proofs.Fit.{got32}
 use Rattle.path.specs.Taken.{taken, taken_own, taken_rings}
 use Rattle.path.proofs.Told.{candidate, path}
-use Rattle.std.proofs.Common.{rules}
 use Rattle.path.proofs.structs.Path.taken.Goals as goal
 
 pub returns : goal.returns

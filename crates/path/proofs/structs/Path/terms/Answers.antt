@@ -1,7 +1,6 @@
 -- `path::structs::Path::terms` meets its contract. Assumes nothing.
 use mathlib.Core.Path.{◌≡◌, ◌∙◌}
 use Prim.Native.Nat.{◌+◌}
-use lib.IntN.{ℤ}
 use lib.ListN.{get_or}
 use mathlib.Core.List.{[]}
 use mir.Syntax.{w32}
@@ -11,8 +10,7 @@ use Rattle.shaping.specs.Taps.{short_prediction}
 use Rattle.path.specs.Path.{terms_of}
 use Rattle.fixed.specs.Row.{word}
 use Rattle.path.specs.Data.{ring_shape}
-use Rattle.path.proofs.Told.{Back, path, fix, common}
-use Rattle.std.proofs.Common.{rules}
+use Rattle.path.proofs.Told.{path, fix, common}
 use Rattle.path.proofs.structs.Path.terms.Goals as goal
 
 pub returns : goal.returns

@@ -6,7 +6,6 @@ use Rattle.fixed.specs.Wrap.{wrap32}
 use Rattle.choice.specs.RustChoice.{choice}
 use Rattle.path.specs.Path.{pair_of, pair_from, residual_of, candidate_of}
 use Rattle.path.proofs.Told as told
-use Rattle.std.proofs.Common.{rules}
 use Rattle.path.proofs.structs.Terms.pair_of.Goals as goal
 
 pub returns : goal.returns

@@ -3,7 +3,6 @@ use mathlib.Core.Path.{◌∙◌}
 use Rattle.fixed.proofs.Fit.{got32, read}
 use Rattle.path.specs.Path.{residual_of}
 use Rattle.path.proofs.Told.{terms}
-use Rattle.std.proofs.Common.{rules}
 use Rattle.path.proofs.structs.Terms.residual_of.Goals as goal
 
 pub returns : goal.returns

@@ -1,7 +1,6 @@
 -- `silk::structs::NsqState::fresh` meets its contract. Assumes nothing.
 use mathlib.Core.Path.{refl}
 use Rattle.silk.specs.State.{fresh_state, fresh_lag, zeros}
-use Rattle.std.proofs.Common.{rules}
 use Rattle.silk.proofs.structs.NsqState.fresh.Goals as goal
 
 pub returns : goal.returns

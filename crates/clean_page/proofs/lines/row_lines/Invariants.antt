@@ -1,0 +1,22 @@
+-- `clean_page::lines::row_lines` meets its contract. Assumes nothing.
+use mathlib.Core.Path.{◌≡◌, sym, ap, ◌∙◌, refl}
+use Prim.Native.Nat.{◌+◌, ◌-◌, ◌≤◌, ◌<◌, min}
+use native.Mathlib.Omega.{arith}
+use lib.ListN.{length, drop, get_or}
+use lib.IntN.{pos}
+use mir.Syntax.{w32}
+use mir.Val.{SFits}
+use Rattle.fixed.proofs.Fit.{read}
+use Rattle.pages.specs.Page.{page, puts}
+use Rattle.cleaning.specs.Changes.{changes_in}
+use Rattle.clean_page.specs.Text.{changes_text}
+use Rattle.clean_page.proofs.Printed.{lines_more, lines-done}
+use Rattle.std.proofs.Common.{rules}
+use Rattle.clean_page.proofs.lines.row_lines.Given as goal
+
+abbrev pub invariant-loop-i : goal.invariant-loop-i
+invariant-loop-i l = ((l.i ≤ l.n) × (length l.out ≡ length l.initial.out))
+    × (puts (changes_text (changes_in l.section 1 l.old l.new)) (page l.initial.m l.initial.out) ≡ puts (changes_text (changes_in l.section (l.i + 1) (drop l.i l.old) (drop l.i l.new))) (page l.m l.out))
+
+abbrev pub decreases-loop-i : goal.decreases-loop-i
+decreases-loop-i l = l.n - l.i

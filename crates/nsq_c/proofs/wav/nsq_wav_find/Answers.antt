@@ -1,0 +1,17 @@
+-- `nsq_c::wav::nsq_wav_find` meets its contract: the part ends at 65,536 at the latest, so its place and its length fit. Assumes nothing.
+use mathlib.Core.Path.{ap}
+use native.Mathlib.Omega.{arith}
+use Rattle.wav_file.proofs.Part.{found-small}
+use Rattle.wav_file.specs.declared.find.Found.{Found}
+use Rattle.std.proofs.Common.{rules}
+use Rattle.nsq_c.proofs.wav.nsq_wav_find.Goals as goal
+
+pub overflow_cast-start : goal.overflow_cast-start
+overflow_cast-start c =
+    let f = c.args.file.now in
+    omega (arith, found-small f, ap (λ (r : Found). r.start) c.find-f.ensures, ap (λ (r : Found). r.length) c.find-f.ensures)
+
+pub overflow_cast-length : goal.overflow_cast-length
+overflow_cast-length c =
+    let f = c.args.file.now in
+    omega (arith, found-small f, ap (λ (r : Found). r.start) c.find-f.ensures, ap (λ (r : Found). r.length) c.find-f.ensures)
