@@ -5,6 +5,7 @@
 // The file `stdout` was not made by this program: the stored texts were made by a reference of their own, in Python, for a fresh state with the lag
 // 100 (again for request E3). tests/stored_sheets.py put both files together.
 #![tactic(auto)]
+
 use clean_page::page;
 use fixed::wrap;
 use limits::count;

@@ -19,7 +19,7 @@ use Rattle.steps.specs.Among.{Rule}
 use Rattle.steps.specs.declared.structs.Given.{Given}
 use Rattle.steps.specs.Call.{Call, voiced_by, given_by, given_of, length_of, count_of, delay_of, lag_by, twice_by, second_by, rewhites_by, since_by, row_by, fix_by, halves_by, rows_by, white_by}
 use Rattle.steps.specs.Flush.{best_of, fit_last}
-use Rattle.steps.specs.Frame.{Framed, start, step, turn_by, run, Done, left_by, ended_by, frame}
+use Rattle.steps.specs.Frame.{Framed, start, step, turn_by, Done, left_by, ended_by, frame}
 use Rattle.counts.proofs.Rows.{Below, below-refl}
 use Rattle.counts.proofs.Flush.{flush-past}
 use Rattle.counts.proofs.Prefix.{Pre, pre-step, frame_out}

@@ -2,6 +2,7 @@
 // and ends with status 0. The sizes of its buffer and of its page are those of the function that it calls, whose contract says that the bytes
 // written are the text of the bytes read, whole.
 #![tactic(auto)]
+
 use sheet_page::page;
 
 fn main() {

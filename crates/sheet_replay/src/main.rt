@@ -5,6 +5,7 @@
 // The file `stdout` was not made by this program: the Rust answered, from a fresh state with the lag 100 (again for request E3); the lines
 // of faults are as they were stored. tests/stored_sheets.py asked the Rust and put both files together.
 #![tactic(auto)]
+
 use fixed::wrap;
 use limits::count;
 use sheet_page::page;

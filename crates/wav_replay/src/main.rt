@@ -6,6 +6,7 @@
 //
 // The file `stdout` was not made by this program: a reference in Python made it. tests/stored_wav.py put both files together.
 #![tactic(auto)]
+
 use fixed::wrap;
 use limits::count;
 use sheet_text::text;

@@ -1,6 +1,5 @@
 -- `clean_replay::main` meets its contract. Assumes nothing.
 use Prim.Native.Nat.{◌≤◌, ◌-◌}
-use Rattle.std.proofs.Common.{rules}
 use Rattle.clean_replay.proofs.main.Given as goal
 
 abbrev pub invariant-loop-k : goal.invariant-loop-k

@@ -1,6 +1,5 @@
 -- `sheet_replay::main` meets its contract. Assumes nothing.
 use Prim.Native.Nat.{◌≤◌, ◌-◌}
-use Rattle.std.proofs.Common.{rules}
 use Rattle.sheet_replay.proofs.main.Given as goal
 
 abbrev pub invariant-loop-k : goal.invariant-loop-k

@@ -7,7 +7,6 @@ use lib.ListN.{length}
 use Rattle.wav_file.specs.Find.{found, part_of}
 use Rattle.wav_file.specs.declared.find.Found.{Found}
 use Rattle.wav_file.proofs.Part.{found-small, part_length}
-use Rattle.std.proofs.Common.{rules}
 use Rattle.wav_replay.proofs.found.Goals as goal
 
 small-start : (r : Found) (file : List ℕ) → r ≡ found file → r.start ≤ 65536

@@ -2,7 +2,6 @@
 use mathlib.Core.Path.{◌≡◌}
 use Prim.Native.Nat.{◌≤◌, ◌-◌}
 use lib.ListN.{length}
-use Rattle.std.proofs.Common.{rules}
 use Rattle.wav_replay.proofs.other_words.Given as goal
 
 abbrev pub invariant-loop-i : goal.invariant-loop-i

@@ -4,7 +4,6 @@ use Rattle.fixed.proofs.Fit.{read}
 use Rattle.pages.specs.Page.{page, put, puts}
 use Rattle.pages.specs.Decimal.{digits, decimal}
 use Rattle.clean_page.proofs.Printed.{line-puts}
-use Rattle.std.proofs.Common.{rules}
 use Rattle.clean_page.proofs.lines.change.Goals as goal
 
 pub returns : goal.returns

@@ -6,7 +6,6 @@ use Rattle.sheet_print.specs.Rows.{rows_of}
 use Rattle.cleaning.specs.Changes.{changes_in}
 use Rattle.clean_page.specs.Text.{changes_text}
 use Rattle.clean_page.proofs.Printed.{ten-puts}
-use Rattle.std.proofs.Common.{rules}
 use Rattle.clean_page.proofs.lines.changes.Goals as goal
 
 pub returns : goal.returns

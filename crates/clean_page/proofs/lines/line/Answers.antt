@@ -4,7 +4,6 @@ use Rattle.fixed.proofs.Fit.{read}
 use Rattle.limits.proofs.Laws.{same-yes, same-no}
 use Rattle.pages.specs.Page.{page}
 use Rattle.clean_page.proofs.Printed.{stays-puts, changed-puts}
-use Rattle.std.proofs.Common.{rules}
 use Rattle.clean_page.proofs.lines.line.Goals as goal
 
 pub returns-then-old-new : goal.returns-then-old-new

@@ -1,17 +1,10 @@
 -- `clean_page::lines::row_lines` meets its contract. Assumes nothing.
-use mathlib.Core.Path.{◌≡◌, sym, ap, ◌∙◌, refl}
-use Prim.Native.Nat.{◌+◌, ◌-◌, ◌≤◌, ◌<◌, min}
-use native.Mathlib.Omega.{arith}
-use lib.ListN.{length, drop, get_or}
-use lib.IntN.{pos}
-use mir.Syntax.{w32}
-use mir.Val.{SFits}
-use Rattle.fixed.proofs.Fit.{read}
+use mathlib.Core.Path.{◌≡◌}
+use Prim.Native.Nat.{◌+◌, ◌-◌, ◌≤◌}
+use lib.ListN.{length, drop}
 use Rattle.pages.specs.Page.{page, puts}
 use Rattle.cleaning.specs.Changes.{changes_in}
 use Rattle.clean_page.specs.Text.{changes_text}
-use Rattle.clean_page.proofs.Printed.{lines_more, lines-done}
-use Rattle.std.proofs.Common.{rules}
 use Rattle.clean_page.proofs.lines.row_lines.Given as goal
 
 abbrev pub invariant-loop-i : goal.invariant-loop-i

@@ -1,6 +1,5 @@
 -- `clean_page::lines::settings_lines` meets its contract. Assumes nothing.
 
-use Rattle.std.proofs.Common.{rules}
 use Rattle.clean_page.proofs.lines.settings_lines.Goals as goal
 
 pub returns : goal.returns

@@ -7,7 +7,6 @@ use Rattle.sheet_text.specs.Text.{sheet_text}
 use Rattle.sheet_print.specs.Rows.{rows_of}
 use Rattle.clean_page.specs.Text.{became_text}
 use Rattle.clean_page.proofs.Texts.{became-puts}
-use Rattle.std.proofs.Common.{rules}
 use Rattle.clean_page.proofs.page.became.Goals as goal
 
 pub returns : goal.returns

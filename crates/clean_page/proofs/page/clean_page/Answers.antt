@@ -6,12 +6,10 @@ use Rattle.pages.specs.Page.{page, puts}
 use Rattle.refusal_rules.specs.Code.{code_of}
 use Rattle.sheet_form.specs.Sections.{reading}
 use Rattle.sheet_form.specs.declared.sheet.Sheet.{Sheet}
-use Rattle.sheet_form.proofs.Variants.{good-verdict}
 use Rattle.sheet_print.specs.Rows.{rows_of}
 use Rattle.sheet_page.specs.Calls.{sheet_answer}
 use Rattle.clean_page.specs.Text.{numbered_text, clean_text}
 use Rattle.clean_page.proofs.Texts.{text-good, text-fault}
-use Rattle.std.proofs.Common.{rules}
 use Rattle.clean_page.proofs.page.clean_page.Goals as goal
 
 pub returns-in-Good : goal.returns-in-Good

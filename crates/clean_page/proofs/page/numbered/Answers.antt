@@ -6,7 +6,6 @@ use Rattle.pages.specs.Page.{page, puts}
 use Rattle.refusal_rules.specs.Code.{code_of}
 use Rattle.sheet_print.specs.Rows.{rows_of}
 use Rattle.clean_page.proofs.Texts.{accepted-text, refused-text}
-use Rattle.std.proofs.Common.{rules}
 use Rattle.clean_page.proofs.page.numbered.Goals as goal
 
 pub returns-then-number-eq0 : goal.returns-then-number-eq0

@@ -2,7 +2,6 @@
 use mathlib.Core.Path.{ap, ◌∙◌}
 use Rattle.pages.specs.Page.{page, puts}
 use Rattle.clean_page.proofs.Texts.{refused-puts}
-use Rattle.std.proofs.Common.{rules}
 use Rattle.clean_page.proofs.page.refused.Goals as goal
 
 pub returns : goal.returns

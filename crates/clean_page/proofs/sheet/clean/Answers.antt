@@ -3,7 +3,6 @@ use mathlib.Core.Path.{refl, ◌∙◌}
 use lib.ListN.{take}
 use Rattle.silk.specs.State.{fresh_lag, fresh_state}
 use Rattle.clean_page.proofs.Held.{cut, row_back, lent-clean, held-clean}
-use Rattle.std.proofs.Common.{rules}
 use Rattle.clean_page.proofs.sheet.clean.Goals as goal
 
 pub returns : goal.returns

@@ -9,7 +9,6 @@ use Rattle.nsq_c.specs.Rows.{called}
 use Rattle.nsq_c.specs.Report.{report_in}
 use Rattle.plain_laid.specs.Laid.{Left, laid}
 use Rattle.plain_fresh.specs.Fresh.{state_fits}
-use Rattle.std.proofs.Common.{rules}
 use Rattle.nsq_c.proofs.calling.called.Goals as goal
 
 pub returns-then-settings-ne12 : goal.returns-then-settings-ne12

@@ -2,7 +2,6 @@
 use lib.ListN.{length}
 use borrow.Author.Tests.{eq-eqb, ne_eqb}
 use Rattle.nsq_c.specs.Report.{short_number}
-use Rattle.std.proofs.Common.{rules}
 use Rattle.nsq_c.proofs.calling.short_number.Goals as goal
 
 pub returns-then-settings-ne12 : goal.returns-then-settings-ne12

@@ -3,7 +3,6 @@ use Prim.Native.Nat.{ℕ}
 use mathlib.Core.Path.{ap, ◌∙◌}
 use Rattle.fixed.proofs.Fit.{read}
 use Rattle.nsq_c.specs.Heard.{numbered, by_number, heard_from}
-use Rattle.std.proofs.Common.{rules}
 use Rattle.nsq_c.proofs.heard.nsq_excitation.Goals as goal
 
 pub returns : goal.returns

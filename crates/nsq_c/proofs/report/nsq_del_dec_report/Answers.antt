@@ -11,7 +11,6 @@ use Rattle.fixed.proofs.Fit.{back}
 use Rattle.plain_laid.specs.Laid.{Left}
 use Rattle.nsq_c.specs.Rows.{call_in}
 use Rattle.nsq_c.specs.Report.{report_in, Reported, reported_of, with_report, reported}
-use Rattle.std.proofs.Common.{rules}
 use Rattle.nsq_c.proofs.report.nsq_del_dec_report.Goals as goal
 
 -- accepted, the report is written

@@ -3,7 +3,6 @@ use mathlib.Core.Path.{ap}
 use native.Mathlib.Omega.{arith}
 use Rattle.wav_file.proofs.Part.{found-small}
 use Rattle.wav_file.specs.declared.find.Found.{Found}
-use Rattle.std.proofs.Common.{rules}
 use Rattle.nsq_c.proofs.wav.nsq_wav_find.Goals as goal
 
 pub overflow_cast-start : goal.overflow_cast-start

@@ -7,7 +7,6 @@ use Rattle.steps.specs.Call.{Call}
 use Rattle.steps.specs.Entry.{outcome}
 use Rattle.steps.specs.Report.{report}
 use Rattle.sheet_page.proofs.Called.{lent-call}
-use Rattle.std.proofs.Common.{rules}
 use Rattle.sheet_page.proofs.call.answered.Goals as goal
 
 pub returns : goal.returns

@@ -2,7 +2,6 @@
 use mathlib.Core.Path.{refl, ◌∙◌}
 use Rattle.silk.specs.State.{fresh_lag, fresh_state}
 use Rattle.sheet_page.proofs.Called.{lent-answer}
-use Rattle.std.proofs.Common.{rules}
 use Rattle.sheet_page.proofs.call.checked.Goals as goal
 
 pub returns : goal.returns

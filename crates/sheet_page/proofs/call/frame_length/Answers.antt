@@ -1,13 +1,9 @@
 -- `sheet_page::call::frame_length` meets its contract. Assumes nothing.
 use mathlib.Core.Path.{◌≡◌}
-use Prim.Native.Nat.{◌≤◌, ◌^◌, ◌*◌}
-use native.Mathlib.Omega.{arith}
-use native.Mathlib.Nat.{mul-le-mul}
 use mir.Syntax.{w32}
 use mir.Val.{SFits}
 use Rattle.fixed.proofs.Fit.{read}
 use Rattle.limits.specs.Count.{nat_z}
-use Rattle.limits.proofs.Laws.{nat-small}
 use Rattle.sheet_page.specs.Calls.{frame_length}
 use Rattle.std.proofs.Common.{rules}
 use Rattle.sheet_page.proofs.call.frame_length.Goals as goal

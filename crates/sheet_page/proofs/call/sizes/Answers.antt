@@ -1,6 +1,5 @@
 -- `sheet_page::call::sizes` meets its contract. Assumes nothing.
 use Rattle.sheet_page.proofs.Called.{lent-sizes}
-use Rattle.std.proofs.Common.{rules}
 use Rattle.sheet_page.proofs.call.sizes.Goals as goal
 
 pub returns : goal.returns

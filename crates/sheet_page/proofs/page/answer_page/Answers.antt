@@ -5,7 +5,6 @@ use Prim.Native.Nat.{ℕ}
 use Rattle.pages.specs.Page.{page, puts}
 use Rattle.steps.specs.Among.{keeps_first}
 use Rattle.sheet_page.proofs.Texts.{lent_row}
-use Rattle.std.proofs.Common.{rules}
 use Rattle.sheet_page.proofs.page.answer_page.Goals as goal
 
 pub returns : goal.returns

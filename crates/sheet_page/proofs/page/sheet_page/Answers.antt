@@ -10,7 +10,6 @@ use Rattle.sheet_print.specs.Rows.{rows_of}
 use Rattle.sheet_page.specs.Calls.{sheet_outcome}
 use Rattle.sheet_page.specs.Page.{outcome_text, sheet_page}
 use Rattle.sheet_page.proofs.Texts.{page-good, page-fault}
-use Rattle.std.proofs.Common.{rules}
 use Rattle.sheet_page.proofs.page.sheet_page.Goals as goal
 
 pub returns-in-Good : goal.returns-in-Good

@@ -6,7 +6,6 @@ use mir.Syntax.{w32}
 use Rattle.fixed.proofs.Fit.{back}
 use Rattle.pages.specs.Page.{page, puts}
 use Rattle.sheet_page.proofs.Texts.{text_of}
-use Rattle.std.proofs.Common.{rules}
 use Rattle.sheet_page.proofs.page.told.Goals as goal
 
 pub returns : goal.returns
