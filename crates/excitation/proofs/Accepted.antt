@@ -114,6 +114,17 @@ pub seed-word : (seed : ℤ) → seed ≡ pos (nat_z seed) → nat_z seed ≤ 3 
 seed-word seed e h = ap (λ (z : ℤ). mod_z z (2 ^ 32)) e ∙ mod-eq_of_lt (let z : nat_z seed < 2 ^ 32 = omega arith in z)
 
 -- ---- a match on an answer
+-- its tag is its number
+tag-code : (a : Answer) → tag_of answer-type.the_type a ≡ code_of a
+tag-code Accepted = refl
+tag-code Seeds = refl
+tag-code Kinds = refl
+tag-code Rows = refl
+
+-- the arm for accepted
+pub accepted-tag : (a : Answer) → tag_of answer-type.the_type a ≡ 0 → code_of a ≡ 0
+accepted-tag a e = sym (tag-code a) ∙ e
+
 -- where it is accepted the row has the values
 pub heard-accepted : (a : Answer) (values row : List ℤ) → code_of a ≡ 0 → heard_by a values row ≡ heard Accepted values
 unfolding heard_by
