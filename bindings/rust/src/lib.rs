@@ -4,7 +4,7 @@
 //! pulses. The lengths of the rows are tested here, before the call, and again by the library: a wrong one is [`Refusal::Row`]. A refused
 //! call leaves the state and the pulses as they were. [`State::code_reported`] codes a frame likewise and counts where the pulses handed out
 //! differ from the winner's own, which is nowhere. [`excitation`] is what the far end makes of a frame's pulses. [`wav`] reads the samples of a
-//! note from a WAV file. A call needs 48 KB of stack at most (`NSQ_STACK` in `include/nsq.h`, which says how that was measured).
+//! note from a WAV file. A call needs 72 KB of stack at most (`NSQ_STACK` in `include/nsq.h`, which says how that was measured).
 //!
 //! A frame of a tone, coded with two paths, and a call that is refused:
 //!
