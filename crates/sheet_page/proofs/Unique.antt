@@ -29,5 +29,5 @@ answer-page-unique κs a r s e f p q = parts r s _ _ (p ∙ sym q)
 pub sheet-page-unique : (κs a r s e f : _) → sheet-page.Post κs a r e → sheet-page.Post κs a s f → (r ≡ s) × (e.1.0.now ≡ f.1.0.now)
 sheet-page-unique κs a r s e f p q = parts r s _ _ (p ∙ sym q)
 
-pub whole_unique : (κs a r s e f : _) → whole.Post κs a r e → whole.Post κs a s f → (r ≡ s) × (e.1.1.0.now ≡ f.1.1.0.now)
-whole_unique κs a r s e f p q = parts r s _ _ (p.0 ∙ sym q.0)
+pub whole-unique : (κs a r s e f : _) → whole.Post κs a r e → whole.Post κs a s f → (r ≡ s) × (e.1.1.0.now ≡ f.1.1.0.now)
+whole-unique κs a r s e f p q = parts r s _ _ (p.0 ∙ sym q.0)

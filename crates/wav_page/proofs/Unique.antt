@@ -7,5 +7,5 @@ use Rattle.wav_page.proofs.page.whole.Reads as whole
 pub wav-page-unique : (κs a r s e f : _) → wav-page.Post κs a r e → wav-page.Post κs a s f → (r ≡ s) × (e.1.0.now ≡ f.1.0.now)
 wav-page-unique κs a r s e f p q = parts r s _ _ (p ∙ sym q)
 
-pub whole_unique : (κs a r s e f : _) → whole.Post κs a r e → whole.Post κs a s f → (r ≡ s) × (e.1.1.0.now ≡ f.1.1.0.now)
-whole_unique κs a r s e f p q = parts r s _ _ (p.0 ∙ sym q.0)
+pub whole-unique : (κs a r s e f : _) → whole.Post κs a r e → whole.Post κs a s f → (r ≡ s) × (e.1.1.0.now ≡ f.1.1.0.now)
+whole-unique κs a r s e f p q = parts r s _ _ (p.0 ∙ sym q.0)
