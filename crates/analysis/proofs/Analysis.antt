@@ -1,14 +1,26 @@
 -- What the analysis filter leaves in each place, whatever the row held before: zero in the first `order`, the filtered
 -- input in each other one, and past the input what was there. Assumes nothing.
-use mathlib.Core.Path.{◌≡◌, ◌∙◌}
-use Prim.Native.Nat.{ℕ, ◌+◌, ◌-◌, ◌<◌, ◌≤◌}
+use mathlib.Core.Path.{◌≡◌, refl, sym, ap, ◌∙◌}
+use Prim.Native.Nat.{ℕ, zero, suc, ◌+◌, ◌-◌, ◌<◌, ◌≤◌}
 use native.Mathlib.Omega.{arith}
-use mathlib.Core.List.{List}
-use lib.ListN.{get_or, length}
+use mathlib.Core.List.{List, [], ◌∷◌, ◌++◌}
+use lib.ListN.{get_or, length, replicate, drop}
 use lib.IntN.{ℤ, pos}
 use Rattle.fixed.specs.Iter.{iter}
-use Rattle.word_steps.specs.Filter.{filtered, filter_turn, analysis}
+use Rattle.word_steps.specs.Filter.{filtered, filter_turn, clear_turn, analysis}
 use Rattle.fixed.proofs.Fills.{fill-length, fill-apart, fill-at}
+
+-- the first places cleared one by one: as many zeros, and the rest of the row
+clears-cons : (n : ℕ) (z : ℤ) (l : List ℤ) → iter clear_turn (suc n) (z ∷ l) ≡ pos 0 ∷ iter clear_turn n l
+clears-cons zero z l = refl
+clears-cons (suc n) z l = ap (clear_turn (suc n)) (clears-cons n z l)
+
+pub cleared : (k : ℕ) (l : List ℤ) → k ≤ length l → replicate k (pos 0) ++ drop k l ≡ iter clear_turn k l
+cleared zero l h = refl
+cleared (suc k) [] h = absurd (let g : suc k ≤ 0 = h in omega arith)
+cleared (suc k) (z ∷ l) h =
+    let g : suc k ≤ suc (length l) = h in
+    ap (λ (r : List ℤ). pos 0 ∷ r) (cleared k l (omega arith)) ∙ sym (clears-cons k z l)
 
 module _ (out input b : List ℤ) (order : ℕ) where
   -- the row before its first places are cleared

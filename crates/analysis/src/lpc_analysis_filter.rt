@@ -6,7 +6,7 @@ use fixed::wrap;
 use products::product;
 use shifts::{range, shift};
 
-// The prediction of the input at `ix` by the `order` inputs before it.
+// The prediction of the input at `ix` by the `order` inputs before it. By index, as in the Rust: the two rows run against each other.
 fn prediction(input: &[i16], b: &[i16], order: usize, ix: usize) -> i32
     requires { (ix < length input.now) × (order ≤ ix) × (order ≤ length b.now) }
     ensures { result ≡ prediction_z input.now b.now order ix }
@@ -28,6 +28,8 @@ fn filtered(input: &[i16], b: &[i16], order: usize, ix: usize) -> i16
     range::sat16(shift::rshift_round(left, 12))
 }
 
+// By an index, since an output is made of the inputs before its place.
+//
 // Filters `input` into the start of `out`, whose first `order` words are cleared and whose words past the input's length
 // stay. The Rust's `len` is the input's length. The filter starts anew with `input`, so nothing before it is read.
 pub fn silk_LPC_analysis_filter(out: &mut [i16], input: &[i16], b: &[i16], order: usize)
@@ -38,7 +40,5 @@ pub fn silk_LPC_analysis_filter(out: &mut [i16], input: &[i16], b: &[i16], order
     for k in 0..n {
         out[order + k] = filtered(input, b, order, order + k);
     }
-    for i in 0..order {
-        out[i] = 0;
-    }
+    out[..order].fill(0);
 }

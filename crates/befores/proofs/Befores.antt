@@ -6,8 +6,7 @@ use Prim.Native.Nat.{◌+◌, ◌-◌, ◌*◌}
 use lib.IntN.{ℤ}
 use Rattle.fixed.specs.Iter.{either}
 use Rattle.path.specs.declared.structs.Fix.{Fix}
-use Rattle.path.specs.declared.structs.Work.{Work}
-use Rattle.path.specs.Data.{Running, running}
+use Rattle.path.specs.Data.{Work, Running, running}
 use Rattle.steps.specs.Scale.{filled}
 use Rattle.steps.specs.Frame.{rewhitened_at, refilled, whitened_of, whitened, whitened_first, flushed_first, regained, regained_last, before}
 
@@ -20,27 +19,40 @@ refill rewhite f a inv xq sltp ltp =
 abbrev pub whites : Bool → Fix → List ℤ → List ℤ → List ℤ → List ℤ
 whites rewhite f a xq sltp = either rewhite (rewhitened_at f a xq sltp) sltp
 
-whitened-is : (rewhite : Bool) (f : Fix) (a : List ℤ) (inv : ℤ) (u : Work) (lpcs : List (List ℤ)) (rings : List (List (List ℤ))) (ltp dgain xq shp out sltp : List ℤ)
-    → whitened_of (running u lpcs rings (refill rewhite f a inv xq sltp ltp) dgain xq shp out) (whites rewhite f a xq sltp)
-    ≡ whitened_first rewhite f a inv (running u lpcs rings ltp dgain xq shp out) sltp
-unfolding whitened_first whitened refilled
-whitened-is true f a inv u lpcs rings ltp dgain xq shp out sltp = refl
-whitened-is false f a inv u lpcs rings ltp dgain xq shp out sltp = refl
+-- a subframe in work with another work row
+abbrev pub with_row : Work → List ℤ → Work
+with_row u ltp =
+    record {
+      states = u.states;
+      chosen = u.chosen;
+      sLTP_Q15 = ltp;
+      delayedGain_Q10 = u.delayedGain_Q10;
+      smpl_buf_idx = u.smpl_buf_idx;
+      xq = u.xq;
+      sLTP_shp_Q14 = u.sLTP_shp_Q14;
+    }
 
-pub before-is : (again rewhite : Bool) (f : Fix) (a : List ℤ) (gain1 inv prev : ℤ) (t : Running) (sltp : List ℤ) (u v : Work)
-    (lpcs lpcs2 : List (List ℤ)) (rings rings2 : List (List (List ℤ))) (ltp ltp1 ltp2 dgain xq shp shp2 out row : List ℤ)
-    → running u lpcs rings ltp dgain xq shp out ≡ flushed_first again f gain1 t
-    → row ≡ whites rewhite f a xq sltp
-    → ltp1 ≡ refill rewhite f a inv xq sltp ltp
-    → running v lpcs2 rings2 ltp2 dgain xq shp2 out ≡ regained f rewhite prev (running u lpcs rings ltp1 dgain xq shp out)
-    → whitened_of (running v lpcs2 rings2 ltp2 dgain xq shp2 out) row ≡ before again rewhite f a gain1 inv prev t sltp
+whitened-is : (rewhite : Bool) (f : Fix) (a : List ℤ) (inv : ℤ) (u : Work) (out sltp : List ℤ)
+    → whitened_of (running (with_row u (refill rewhite f a inv u.xq sltp u.sLTP_Q15)) out) (whites rewhite f a u.xq sltp)
+    ≡ whitened_first rewhite f a inv (running u out) sltp
+unfolding whitened_first whitened refilled
+whitened-is true f a inv u out sltp = refl
+whitened-is false f a inv u out sltp = refl
+
+-- u is the subframe in work after the flush, ltp its work row after the rewhitening, row the filtered history, v the subframe in work at the end
+pub before-is : (again rewhite : Bool) (f : Fix) (a : List ℤ) (gain1 inv prev : ℤ) (t : Running) (sltp : List ℤ) (u v : Work) (out ltp row : List ℤ)
+    → running u out ≡ flushed_first again f gain1 t
+    → row ≡ whites rewhite f a u.xq sltp
+    → ltp ≡ refill rewhite f a inv u.xq sltp u.sLTP_Q15
+    → running v out ≡ regained f rewhite prev (running (with_row u ltp) out)
+    → whitened_of (running v out) row ≡ before again rewhite f a gain1 inv prev t sltp
 unfolding before
-before-is again rewhite f a gain1 inv prev t sltp u v lpcs lpcs2 rings rings2 ltp ltp1 ltp2 dgain xq shp shp2 out row e1 e2 e3 e4 =
+before-is again rewhite f a gain1 inv prev t sltp u v out ltp row e1 e2 e3 e4 =
     ap (λ (r : Running). whitened_of r row) e4
     ∙ ap (regained_last rewhite f prev)
     (
-    ap (λ (l : List ℤ). whitened_of (running u lpcs rings l dgain xq shp out) row) e3
-    ∙ ap (λ (l : List ℤ). whitened_of (running u lpcs rings (refill rewhite f a inv xq sltp ltp) dgain xq shp out) l) e2
-    ∙ whitened-is rewhite f a inv u lpcs rings ltp dgain xq shp out sltp
+    ap (λ (l : List ℤ). whitened_of (running (with_row u l) out) row) e3
+    ∙ ap (λ (l : List ℤ). whitened_of (running (with_row u (refill rewhite f a inv u.xq sltp u.sLTP_Q15)) out) l) e2
+    ∙ whitened-is rewhite f a inv u out sltp
     ∙ ap (λ (r : Running). whitened_first rewhite f a inv r sltp) e1
     )

@@ -12,62 +12,58 @@ use scaling::scale;
 
 // The history from `from` on, m words, filtered into the row from `start` on; the words before stay.
 fn rewhitened(
-    row: [i16; 640],
+    row: &mut [i16; 640],
     xq: &[i16],
     a: &[i16],
     order: usize,
     start: usize,
     from: usize,
     m: usize,
-) -> [i16; 640]
+)
     requires { ((start + m ≤ 640) × (from + m ≤ length xq.now)) × ((order ≤ m) × (order ≤ length a.now)) }
-    ensures { result ≡ rewhitened_z row xq.now a.now order start from m }
+    ensures { row.new ≡ rewhitened_z row.old xq.now a.now order start from m }
 {
-    let mut r = row;
     let end = from + m;
-    lpc_analysis_filter::silk_LPC_analysis_filter(&mut r[start..], &xq[from..end], a, order);
-    r
+    lpc_analysis_filter::silk_LPC_analysis_filter(&mut row[start..], &xq[from..end], a, order);
 }
 
-// The rewhitening of a subframe: the filtered history comes back, and the work row is filled from it, times inv.
+// The rewhitening of a subframe: the filtered history, and the work row filled from it, times inv.
 pub fn whitened(
     ltp: &mut [i32; 640],
-    sltp: [i16; 640],
-    xq: &[i16],
+    sltp: &mut [i16; 640],
+    xq: &[i16; 640],
     a: &[i16],
     f: Fix,
     inv: i32,
-) -> [i16; 640]
-    requires { (Fits f × Room f) × ((f.predictLPCOrder ≤ length a.now) × (640 ≤ length xq.now)) }
-    ensures row { result ≡ rewhitened_at f a.now xq.now sltp }
-    ensures work { ltp.new ≡ filled inv (rewhitened_at f a.now xq.now sltp) (4 * f.subfr_length - f.lag - 2) (f.lag + 2) ltp.old }
+)
+    requires { (Fits f × Room f) × (f.predictLPCOrder ≤ length a.now) }
+    ensures row { sltp.new ≡ rewhitened_at f a.now xq.now sltp.old }
+    ensures work { ltp.new ≡ filled inv (rewhitened_at f a.now xq.now sltp.old) (4 * f.subfr_length - f.lag - 2) (f.lag + 2) ltp.old }
 {
     let end = 4 * f.subfr_length;
     let order = f.predictLPCOrder;
     let first = end - f.lag - 2;
     let start = first - order;
     let from = start + f.base;
-    let row = rewhitened(sltp, xq, a, order, start, from, end - start);
-    scale::filled(ltp, &row, inv, first, f.lag + 2);
-    row
+    rewhitened(sltp, xq, a, order, start, from, end - start);
+    scale::filled(ltp, sltp, inv, first, f.lag + 2);
 }
 
 // The rewhitening, if there is one.
 pub fn whitened_first(
     rewhite: bool,
     ltp: &mut [i32; 640],
-    sltp: [i16; 640],
-    xq: &[i16],
+    sltp: &mut [i16; 640],
+    xq: &[i16; 640],
     a: &[i16],
     f: Fix,
     inv: i32,
-) -> [i16; 640]
-    requires { (Fits f × Room f) × ((f.predictLPCOrder ≤ length a.now) × (640 ≤ length xq.now)) }
-    ensures row { result ≡ either rewhite (rewhitened_at f a.now xq.now sltp) sltp }
-    ensures work { ltp.new ≡ either rewhite (filled inv (rewhitened_at f a.now xq.now sltp) (4 * f.subfr_length - f.lag - 2) (f.lag + 2) ltp.old) ltp.old }
+)
+    requires { (Fits f × Room f) × (f.predictLPCOrder ≤ length a.now) }
+    ensures row { sltp.new ≡ either rewhite (rewhitened_at f a.now xq.now sltp.old) sltp.old }
+    ensures work { ltp.new ≡ either rewhite (filled inv (rewhitened_at f a.now xq.now sltp.old) (4 * f.subfr_length - f.lag - 2) (f.lag + 2) ltp.old) ltp.old }
 {
     if rewhite {
-        return whitened(ltp, sltp, xq, a, f, inv);
+        whitened(ltp, sltp, xq, a, f, inv);
     }
-    sltp
 }

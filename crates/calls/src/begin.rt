@@ -1,32 +1,10 @@
-// The paths before the first subframe, and the rows of zeros that a frame works on.
+// The paths before the first subframe.
 ghost use Rattle.std.specs.Prelude.{◌≡◌, ◌<◌, ◌≤◌, replicate};
 ghost use Rattle.silk.specs.State.{zeros};
-ghost use Rattle.path.specs.Data.{paths};
-ghost use Rattle.steps.specs.Carried.{no_rows};
+ghost use Rattle.path.specs.Data.{paths, paths_of};
 ghost use Rattle.steps.specs.Begin.{zero_path, zero_lpcs, zero_rings, own_from, start_lpc, start_rings, begun};
 
-use path::structs::{Path, SHAPE_Q14};
-
-// The work row, `sLTP_Q15`.
-pub fn zero_work() -> [i32; 640]
-    ensures { result ≡ zeros 640 }
-{
-    [0; 640]
-}
-
-// The filtered history, `sLTP`.
-pub fn zero_sltp() -> [i16; 640]
-    ensures { result ≡ zeros 640 }
-{
-    [0; 640]
-}
-
-// As long as a ring: the delayed gains, and each ring of a path.
-pub fn zero_gain() -> [i32; 40]
-    ensures { result ≡ zeros 40 }
-{
-    [0; 40]
-}
+use path::structs::{Path, SHAPE_Q14, States};
 
 // The LPC words of one path.
 fn zero_lpc() -> [i32; 96]
@@ -35,25 +13,11 @@ fn zero_lpc() -> [i32; 96]
     [0; 96]
 }
 
-// The LPC words of all paths.
-pub fn zero_lpcs() -> [[i32; 96]; 4]
-    ensures { result ≡ zero_lpcs }
+// A ring of a path.
+fn zero_ring() -> [i32; 40]
+    ensures { result ≡ zeros 40 }
 {
-    [[0; 96]; 4]
-}
-
-// The rings of all paths.
-pub fn zero_rings() -> [[[i32; 40]; 5]; 4]
-    ensures { result ≡ zero_rings }
-{
-    [[[0; 40]; 5]; 4]
-}
-
-// The pulses that the paths have chosen before the first sample: none.
-pub fn zero_own() -> [[i8; 320]; 4]
-    ensures { result ≡ no_rows }
-{
-    [[0; 320]; 4]
+    [0; 40]
 }
 
 // A path of zeros.
@@ -91,10 +55,7 @@ fn start_lpc(lpc: [i32; 96]) -> [i32; 96]
     ensures { result ≡ start_lpc lpc }
 {
     let mut row = zero_lpc();
-    for j in 0..16 {
-        let w = lpc[j];
-        row[j] = w;
-    }
+    row[..16].copy_from_slice(&lpc[..16]);
     row
 }
 
@@ -102,7 +63,7 @@ fn start_lpc(lpc: [i32; 96]) -> [i32; 96]
 fn start_rings(shape: i32) -> [[i32; 40]; 5]
     ensures { result ≡ start_rings shape }
 {
-    let none = zero_gain();
+    let none = zero_ring();
     let mut rings = [none; 5];
     let mut shaping = none;
     shaping[0] = shape;
@@ -110,7 +71,16 @@ fn start_rings(shape: i32) -> [[i32; 40]; 5]
     rings
 }
 
-// The first n paths begun, their rows written; the short words of the others are zero.
+// Four paths of zeros.
+pub fn zero_states() -> States
+    ensures { paths_of result ≡ paths (replicate 4 zero_path) zero_lpcs zero_rings }
+{
+    let none = zero_path();
+    States::of([none; 4], [[0; 96]; 4], [[[0; 40]; 5]; 4])
+}
+
+// The first n paths begun, their rows written; the short words of the others are zero, and their rows stay. By k, as three rows go together and the
+// seed goes by it. The words of a state that a path begins with are parameters, as they are read once.
 pub fn start_paths(
     ar2: [i32; 24],
     lf: i32,
@@ -119,20 +89,18 @@ pub fn start_paths(
     shape: i32,
     seed: usize,
     n: usize,
-    lpcs: &mut [[i32; 96]; 4],
-    rings: &mut [[[i32; 40]; 5]; 4],
-) -> [Path; 4]
+    ps: &mut States,
+)
     requires { (seed < 4) × (n ≤ 4) }
-    ensures { paths result lpcs.new rings.new ≡ begun ar2 lf diff lpc shape seed n (paths (replicate 4 zero_path) lpcs.old rings.old) }
+    ensures { paths_of ps.new ≡ begun ar2 lf diff lpc shape seed n (paths (replicate 4 zero_path) ps.old.lpcs ps.old.rings) }
 {
     let row = start_lpc(lpc);
     let ring = start_rings(shape);
     let none = zero_path();
-    let mut qs = [none; 4];
+    ps.owns = [none; 4];
     for k in 0..n {
-        qs[k] = start_own(ar2, lf, diff, seed, k);
-        lpcs[k] = row;
-        rings[k] = ring;
+        ps.owns[k] = start_own(ar2, lf, diff, seed, k);
+        ps.lpcs[k] = row;
+        ps.rings[k] = ring;
     }
-    qs
 }

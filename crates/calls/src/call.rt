@@ -26,18 +26,14 @@ fn interpolated_by(interp: i32) -> bool
 fn lowered(d: usize, lag: usize) -> usize
     ensures { result ≡ lowered_n d lag }
 {
-    if lag < 3 {
-        return 0;
-    }
-    let room = lag - 3;
-    if room < d { room } else { d }
+    d.min(lag.saturating_sub(3))
 }
 
 // The delay before the lags lower it.
 fn most_delay(l: usize) -> usize
     ensures { result ≡ min 40 l }
 {
-    if l < 40 { l } else { 40 }
+    l.min(40)
 }
 
 // The delay of a voiced frame, by each of its lags.
@@ -46,9 +42,8 @@ fn voiced_delay(l: usize, n: usize, lags: &[i32]) -> usize
     ensures { result ≡ voiced_delay l n lags.now }
 {
     let mut d = most_delay(l);
-    for k in 0..n {
-        let lag = lags[k];
-        d = lowered(d, count::count(lag));
+    for lag in &lags[..n] {
+        d = lowered(d, count::count(*lag));
     }
     d
 }
@@ -58,10 +53,7 @@ fn quiet_delay(l: usize, lagPrev: usize) -> usize
     ensures { result ≡ quiet_delay l lagPrev }
 {
     let d = most_delay(l);
-    if 0 < lagPrev {
-        return lowered(d, lagPrev);
-    }
-    d
+    if 0 < lagPrev { lowered(d, lagPrev) } else { d }
 }
 
 // The decision delay.
@@ -70,9 +62,10 @@ fn delay(voiced: bool, l: usize, n: usize, lagPrev: usize, lags: &[i32]) -> usiz
     ensures { result ≡ delay_by voiced l n lagPrev lags.now }
 {
     if voiced {
-        return voiced_delay(l, n, lags);
+        voiced_delay(l, n, lags)
+    } else {
+        quiet_delay(l, lagPrev)
     }
-    quiet_delay(l, lagPrev)
 }
 
 // The settings as counts. Only of an accepted call: the types are then places of the table of offsets.
@@ -92,7 +85,7 @@ pub fn given_of(s: Settings, lagPrev: i32, lags: &[i32]) -> Given
         predictLPCOrder: count::count(s.predictLPCOrder),
         shapingLPCOrder: count::count(s.shapingLPCOrder),
         nStates: count::count(s.nStatesDelayedDecision),
-        voiced: voiced,
+        voiced,
         interpolated: interpolated_by(s.NLSFInterpCoef_Q2),
         offset_Q10: offset,
         Lambda_Q10: s.Lambda_Q10,

@@ -6,11 +6,12 @@
 #![tactic(auto)]
 
 use choice::candidate;
+use digests::fnv::Fnv32;
 use fixed::wrap;
-use program_words::bits;
 use residuals::offset;
 use seeds::generator;
 use shifts::shift;
+use std::io;
 
 // The Lambdas where a step of the choice changes its ways, and the ends of the types.
 const NAMED: [i32; 64] = [
@@ -85,65 +86,43 @@ fn lambda_of(k: usize, seed: i32) -> i32 {
     if k < 64 {
         return NAMED[k];
     }
-    if k % 3 == 0 {
-        return seed;
+    match k % 3 {
+        0 => seed,
+        1 => shift::shr32(seed, 15),
+        _ => wrap::add32(shift::shr32(seed, 19), 4096),
     }
-    if k % 3 == 1 {
-        return shift::shr32(seed, 15);
-    }
-    wrap::add32(shift::shr32(seed, 19), 4096)
 }
 
-// x + 2^31: the bits of x, the sign bit turned.
-fn word(x: i32) -> u32 {
-    ((x as i64) + 2147483648) as u32
-}
-
-// One word more: FNV-1a of 32 bits, a word at a time.
-fn mixed(h: u32, x: i32) -> u32 {
-    bits::mul_u32(h ^ word(x), 16777619)
-}
-
-fn with_choice(h: u32, r: i32, lambda: i32, offset: i32) -> u32 {
+// One choice more: each word goes in with its sign bit turned.
+fn with_choice(h: Fnv32, r: i32, lambda: i32, offset: i32) -> Fnv32 {
     let c = candidate::candidates(r, lambda, offset);
-    let first = mixed(mixed(h, c.first_level), c.first_cost);
-    mixed(mixed(first, c.second_level), c.second_cost)
+    let words = [c.first_level, c.first_cost, c.second_level, c.second_cost];
+    words.iter().fold(h, |h, x| h.word(*x ^ i32::MIN))
 }
 
-// The choices at the four entries of the table.
-fn with_residual(h: u32, r: i32, lambda: i32) -> u32 {
-    let a = with_choice(h, r, lambda, offset::quant_offset(0, 0));
-    let b = with_choice(a, r, lambda, offset::quant_offset(0, 1));
-    let c = with_choice(b, r, lambda, offset::quant_offset(2, 0));
-    with_choice(c, r, lambda, offset::quant_offset(2, 1))
-}
-
-fn digest(lambda: i32) -> u32 {
-    let mut h: u32 = 2166136261;
-    let residuals: usize = 62465;
-    for i in 0..residuals {
-        h = with_residual(h, wrap::sub32(i as i32, 31744), lambda);
+// The choices of every residual at the four entries of the offset table.
+fn digest(lambda: i32) -> Fnv32 {
+    let offsets = [
+        offset::quant_offset(0, 0),
+        offset::quant_offset(0, 1),
+        offset::quant_offset(2, 0),
+        offset::quant_offset(2, 1),
+    ];
+    let mut h = Fnv32::new();
+    for r in -31744..=30720 {
+        for offset in offsets {
+            h = with_choice(h, r, lambda, offset);
+        }
     }
     h
 }
 
-// The bits of x.
-fn bits(x: i32) -> u32 {
-    word(x) ^ 2147483648
-}
-
-fn print_line(lambda: i32) {
-    io::print_hex(1, bits(lambda) as u64, 8);
-    io::write_all(1, &[b' ']);
-    io::print_hex(1, digest(lambda) as u64, 8);
-    io::write_all(1, &[b'\n']);
-}
-
-fn main() {
-    let mut seed: i32 = 0;
-    let lambdas: usize = 208;
-    for k in 0..lambdas {
+fn main(rt: HostRuntime) -> io::Result<()> {
+    let mut seed = 0;
+    for k in 0..208usize {
         seed = generator::rand(seed);
-        print_line(lambda_of(k, seed));
+        let lambda = lambda_of(k, seed);
+        println!(rt; "{:08x} {:08x}", lambda.cast_unsigned(), digest(lambda).sum)?;
     }
+    Ok(())
 }

@@ -1,77 +1,100 @@
--- The lines of the changes, byte after byte, number after number and section after section. Assumes nothing.
-use Prim.Native.Nat.{ℕ, suc, ◌+◌, ◌<◌, min}
+-- The lines of the changes, number after number and section after section. Assumes nothing.
+use Prim.Native.Nat.{ℕ, zero, suc, ◌+◌, ◌<◌, min}
 use native.Mathlib.Omega.{arith}
-use native.Mathlib.Numerals.{add-one}
 use mathlib.Core.Path.{◌≡◌, refl, sym, ap, ◌∙◌}
 use mathlib.Core.Bool.{Bool, true, false}
-use mathlib.Core.List.{List, [], ◌∷◌, ◌++◌, append-nil, append_assoc}
-use lib.ListN.{length, drop, get_or}
-use lib.Seq.{drop-cons, drop-length}
-use lib.IntN.{ℤ, pos}
-use lib.Dec.{leb}
-use borrow.Author.Tests.{leb-true, leb-false}
+use mathlib.Core.List.{List, [], ◌∷◌, ◌++◌, append-nil, append_assoc, map, map-append}
+use lib.ListN.{length, take, get_or}
+use lib.Seq.{length-take-le}
+use lib.IntN.{ℤ}
+use mir.Syntax.{w64}
+use mir.Val.{SFits, of_z, to_z}
+use Rattle.std.proofs.lemmas.List.{take_more, length-map}
+use Rattle.fixed.specs.Iter.{either}
+use Rattle.fixed.proofs.Fit.{read}
 use Rattle.limits.specs.Count.{same_z}
-use Rattle.pages.specs.Page.{Page, put, puts}
+use Rattle.limits.proofs.Laws.{same_true, same_refl}
+use Rattle.pages.specs.declared.page.Page.{Page as Lent}
+use Rattle.pages.specs.Added.{Added}
 use Rattle.pages.specs.Decimal.{digits, decimal}
-use Rattle.pages.proofs.Pages.{puts-append, puts_one}
-use Rattle.cleaning.specs.Changes.{Change, change_of, listed, changes_in, changes_from, changes}
+use Rattle.pages.proofs.Pages.{added_none, added_then}
+use Rattle.cleaning.specs.Changes.{Change, change_of, listed, changes_in, changes_from}
 use Rattle.clean_page.specs.Text.{change_text, changes_text}
 
 -- ---- one line
-space-puts : (s : List ℕ) (q : Page) → puts (32 ∷ s) q ≡ puts s (put 32 q)
-unfolding puts
-space-puts s q = refl
-
-two-puts : (s t : List ℕ) (q : Page) → puts (s ++ (32 ∷ t)) q ≡ puts t (put 32 (puts s q))
-two-puts s t q = puts-append s (32 ∷ t) q ∙ space-puts t (puts s q)
-
-pub line-puts : (s p : ℕ) (old new : ℤ) (q : Page)
-    → put 10 (puts (decimal new) (put 32 (puts (decimal old) (put 32 (puts (digits p) (put 32 (puts (digits s) q)))))))
-    ≡ puts (change_text (change_of s p old new)) q
+pub line-added : {p q1 q2 q3 q4 q5 q6 q7 q : Lent} (s n : ℕ) (old new : ℤ) → Added p (digits s) q1 → Added q1 (32 ∷ []) q2 → Added q2 (digits n) q3 → Added q3 (32 ∷ []) q4
+    → Added q4 (decimal old) q5 → Added q5 (32 ∷ []) q6 → Added q6 (decimal new) q7 → Added q7 (10 ∷ []) q → Added p (change_text (change_of s n old new)) q
 unfolding change_text decimal
-line-puts s p old new q =
-    rw (
-      puts-append (((digits s ++ (32 ∷ digits p)) ++ (32 ∷ decimal old)) ++ (32 ∷ decimal new)) (10 ∷ []) q,
-      two-puts ((digits s ++ (32 ∷ digits p)) ++ (32 ∷ decimal old)) (decimal new) q,
-      two-puts (digits s ++ (32 ∷ digits p)) (decimal old) q,
-      two-puts (digits s) (digits p) q,
-      puts_one 10 (puts (decimal new) (put 32 (puts (decimal old) (put 32 (puts (digits p) (put 32 (puts (digits s) q))))))),
-    ) refl
+line-added s n old new a b c d e f g h =
+    added_then (((digits s ++ (32 ∷ digits n)) ++ (32 ∷ decimal old)) ++ (32 ∷ decimal new)) (10 ∷ [])
+    (added_then ((digits s ++ (32 ∷ digits n)) ++ (32 ∷ decimal old)) (32 ∷ decimal new)
+    (added_then (digits s ++ (32 ∷ digits n)) (32 ∷ decimal old)
+    (added_then (digits s) (32 ∷ digits n) a (added_then (32 ∷ []) (digits n) b c))
+    (added_then (32 ∷ []) (decimal old) d e))
+    (added_then (32 ∷ []) (decimal new) f g))
+    h
 
 -- ---- one number: no line where it stays, else its line
-pub stays-puts : (s p : ℕ) (old new : ℤ) (q : Page) → same_z old new ≡ true → q ≡ puts (changes_text (listed s p old new [])) q
-unfolding listed changes_text puts
-stays-puts s p old new q e = rw e refl
-
-pub changed-puts : (s p : ℕ) (old new : ℤ) (q : Page) → same_z old new ≡ false → puts (change_text (change_of s p old new)) q ≡ puts (changes_text (listed s p old new [])) q
+pub stays-text : (s p : ℕ) (old new : ℤ) → same_z old new ≡ true → [] ≡ changes_text (listed s p old new [])
 unfolding listed changes_text
-changed-puts s p old new q e = rw e (ap (λ (t : List ℕ). puts t q) (sym (append-nil (change_text (change_of s p old new)))))
+stays-text s p old new e = rw e refl
+
+pub changed-text : (s p : ℕ) (old new : ℤ) → same_z old new ≡ false → change_text (change_of s p old new) ≡ changes_text (listed s p old new [])
+unfolding listed changes_text
+changed-text s p old new e = rw e (sym (append-nil (change_text (change_of s p old new))))
+
+-- the code compares bits, the definitions compare numbers
+pub same-64 : (a b : ℤ) → SFits w64 a → SFits w64 b → of_z w64 a ≡ of_z w64 b → same_z a b ≡ true
+same-64 a b f g e =
+    let k : a ≡ b = sym (read f) ∙ ap (to_z w64) e ∙ read g in
+    rw k (same_refl b)
+
+pub other-64 : (a b : ℤ) → (of_z w64 a ≡ of_z w64 b → ⊥) → same_z a b ≡ false
+other-64 a b h = go (same_z a b) refl
+  where
+    go : (t : Bool) → same_z a b ≡ t → same_z a b ≡ false
+    go true e = absurd (h (ap (of_z w64) (same_true a b e)))
+    go false e = e
 
 -- ---- number after number
-listed_then : (s p : ℕ) (a b : ℤ) (cs : List Change) → listed s p a b cs ≡ listed s p a b [] ++ cs
+listed-append : (s p : ℕ) (a b : ℤ) (cs ds : List Change) → listed s p a b (cs ++ ds) ≡ listed s p a b cs ++ ds
 unfolding listed
-listed_then s p a b cs = go (same_z a b) refl
+listed-append s p a b cs ds = go (same_z a b)
   where
-    go : (t : Bool) → same_z a b ≡ t → listed s p a b cs ≡ listed s p a b [] ++ cs
-    go true e = rw e refl
-    go false e = rw e refl
+    go : (t : Bool) → either t (cs ++ ds) (change_of s p a b ∷ (cs ++ ds)) ≡ either t cs (change_of s p a b ∷ cs) ++ ds
+    go true = refl
+    go false = refl
 
 texts-append : (cs ds : List Change) → changes_text (cs ++ ds) ≡ changes_text cs ++ changes_text ds
 unfolding changes_text
 texts-append [] ds = refl
 texts-append (c ∷ cs) ds = ap (λ (t : List ℕ). change_text c ++ t) (texts-append cs ds) ∙ sym (append_assoc (change_text c) (changes_text cs) (changes_text ds))
 
-texts-puts : (cs ds : List Change) (q : Page) → puts (changes_text (cs ++ ds)) q ≡ puts (changes_text ds) (puts (changes_text cs) q)
-texts-puts cs ds q = ap (λ (t : List ℕ). puts t q) (texts-append cs ds) ∙ puts-append (changes_text cs) (changes_text ds) q
-
-pub lines_more : (s i : ℕ) (old new : List ℤ) (q : Page) → i < length old → i < length new
-    → puts (changes_text (changes_in s (i + 1) (drop i old) (drop i new))) q
-    ≡ puts (changes_text (changes_in s (i + 1 + 1) (drop (i + 1) old) (drop (i + 1) new)))
-    (puts (changes_text (listed s (i + 1) (get_or old i (pos 0)) (get_or new i (pos 0)) [])) q)
+-- one number more in both rows
+changes-more : (s p : ℕ) (xs ys : List ℤ) (x y : ℤ) → length xs ≡ length ys
+    → changes_in s p (xs ++ (x ∷ [])) (ys ++ (y ∷ [])) ≡ changes_in s p xs ys ++ listed s (p + length xs) x y []
 unfolding changes_in
-lines_more s i old new q h k =
-    rw (drop-cons old i (pos 0) h, drop-cons new i (pos 0) k, add-one i, add-one (suc i), listed_then s (suc i) (get_or old i (pos 0)) (get_or new i (pos 0)) (changes_in s (suc (suc i)) (drop (suc i) old) (drop (suc i) new)))
-    (texts-puts (listed s (suc i) (get_or old i (pos 0)) (get_or new i (pos 0)) []) (changes_in s (suc (suc i)) (drop (suc i) old) (drop (suc i) new)) q)
+changes-more s p [] [] x y h = let e : p + 0 ≡ p = omega arith in rw e
+changes-more s p [] (b ∷ ys) x y h = absurd (omega arith)
+changes-more s p (a ∷ xs) [] x y h = absurd (omega arith)
+changes-more s p (a ∷ xs) (b ∷ ys) x y h =
+    let e : suc p + length xs ≡ p + suc (length xs) = omega arith in
+    let k : length xs ≡ length ys = omega arith in
+    ap (listed s p a b) (changes-more s (suc p) xs ys x y k ∙ rw e) ∙ listed-append s p a b (changes_in s (suc p) xs ys) (listed s (p + suc (length xs)) x y [])
+
+-- .. of rows of numbers of some type
+pub rows-more : {X : Type 0} (value : X → ℤ) (s i : ℕ) (old new : List X) (x y : X) → i < length old → i < length new → x ≡ get_or old i x → y ≡ get_or new i y
+    → changes_text (changes_in s 1 (map value (take (i + 1) old)) (map value (take (i + 1) new)))
+    ≡ changes_text (changes_in s 1 (map value (take i old)) (map value (take i new))) ++ changes_text (listed s (i + 1) (value x) (value y) [])
+rows-more value s i old new x y h k e f =
+    let m = length-map (take i old) value in
+    let n = length-map (take i new) value in
+    let l : length (map value (take i old)) ≡ length (map value (take i new)) = omega (arith, m, n, length-take-le i old, length-take-le i new) in
+    let q : 1 + length (map value (take i old)) ≡ i + 1 = omega (arith, m, length-take-le i old) in
+    let a = ap (map value) (take_more old i x h ∙ ap (λ (z : _). take i old ++ (z ∷ [])) (sym e)) ∙ map-append value (take i old) (x ∷ []) in
+    let b = ap (map value) (take_more new i y k ∙ ap (λ (z : _). take i new ++ (z ∷ [])) (sym f)) ∙ map-append value (take i new) (y ∷ []) in
+    ap changes_text (rw (a, b) (changes-more s 1 (map value (take i old)) (map value (take i new)) (value x) (value y) l ∙ rw q))
+    ∙ texts-append (changes_in s 1 (map value (take i old)) (map value (take i new))) (listed s (i + 1) (value x) (value y) [])
 
 -- where one of the rows ends there is no further line
 ends-left : (s p : ℕ) (new : List ℤ) → changes_in s p [] new ≡ []
@@ -84,56 +107,24 @@ unfolding changes_in
 ends-right s p [] = refl
 ends-right s p (a ∷ old) = refl
 
-none-puts : (q : Page) → puts (changes_text []) q ≡ q
-unfolding changes_text puts
-none-puts q = refl
-
-pub lines-done : (s p i : ℕ) (old new : List ℤ) (q : Page) → i ≡ min (length old) (length new) → puts (changes_text (changes_in s p (drop i old) (drop i new))) q ≡ q
-lines-done s p i old new q h = go (leb (length old) (length new)) refl
-  where
-    go : (t : Bool) → leb (length old) (length new) ≡ t → puts (changes_text (changes_in s p (drop i old) (drop i new))) q ≡ q
-    go true e =
-        let l = leb-true (length old) (length new) e in
-        let k : i ≡ length old = omega arith in
-        rw (ap (λ (m : ℕ). drop m old) k ∙ drop-length old, ends-left s p (drop i new)) (none-puts q)
-    go false e =
-        let l = leb-false (length old) (length new) e in
-        let k : i ≡ length new = omega arith in
-        rw (ap (λ (m : ℕ). drop m new) k ∙ drop-length new, ends-right s p (drop i old)) (none-puts q)
+pub rows-done : {X : Type 0} (value : X → ℤ) (s p i : ℕ) (old new : List X) → i ≡ min (length old) (length new)
+    → changes_in s p (map value (take i old)) (map value (take i new)) ≡ changes_in s p (map value old) (map value new)
+unfolding changes_in
+rows-done value s p zero [] new h = sym (ends-left s p (map value new))
+rows-done value s p (suc i) [] new h = absurd (omega arith)
+rows-done value s p zero (a ∷ old) [] h = sym (ends-right s p (map value (a ∷ old)))
+rows-done value s p (suc i) (a ∷ old) [] h = absurd (omega arith)
+rows-done value s p zero (a ∷ old) (b ∷ new) h = absurd (omega arith)
+rows-done value s p (suc i) (a ∷ old) (b ∷ new) h = ap (listed s p (value a) (value b)) (rows-done value s (suc p) i old new (omega arith))
 
 -- ---- section after section
-first-puts : (s : ℕ) (a b : List ℤ) (old new : List (List ℤ)) (q : Page)
-    → puts (changes_text (changes_from s (a ∷ old) (b ∷ new))) q ≡ puts (changes_text (changes_from (suc s) old new)) (puts (changes_text (changes_in s 1 a b)) q)
+pub first-added : {p q r : Lent} (s : ℕ) (a b : List ℤ) (old new : List (List ℤ)) → Added p (changes_text (changes_in s 1 a b)) q → Added q (changes_text (changes_from (suc s) old new)) r
+    → Added p (changes_text (changes_from s (a ∷ old) (b ∷ new))) r
 unfolding changes_from
-first-puts s a b old new q = texts-puts (changes_in s 1 a b) (changes_from (suc s) old new) q
+first-added s a b old new h k =
+    rw (texts-append (changes_in s 1 a b) (changes_from (suc s) old new))
+    (added_then (changes_text (changes_in s 1 a b)) (changes_text (changes_from (suc s) old new)) h k)
 
-last-puts : (s : ℕ) (q : Page) → puts (changes_text (changes_from s [] [])) q ≡ q
-unfolding changes_from changes_text puts
-last-puts s q = refl
-
--- ten sections and what they became
-pub ten-puts : (a1 a2 a3 a4 a5 a6 a7 a8 a9 a10 b1 b2 b3 b4 b5 b6 b7 b8 b9 b10 : List ℤ) (q : Page)
-    → puts (changes_text (changes_in 10 1 a10 b10))
-    (puts (changes_text (changes_in 9 1 a9 b9))
-    (puts (changes_text (changes_in 8 1 a8 b8))
-    (puts (changes_text (changes_in 7 1 a7 b7))
-    (puts (changes_text (changes_in 6 1 a6 b6))
-    (puts (changes_text (changes_in 5 1 a5 b5))
-    (puts (changes_text (changes_in 4 1 a4 b4))
-    (puts (changes_text (changes_in 3 1 a3 b3))
-    (puts (changes_text (changes_in 2 1 a2 b2)) (puts (changes_text (changes_in 1 1 a1 b1)) q)))))))))
-    ≡ puts (changes_text (changes (a1 ∷ a2 ∷ a3 ∷ a4 ∷ a5 ∷ a6 ∷ a7 ∷ a8 ∷ a9 ∷ a10 ∷ []) (b1 ∷ b2 ∷ b3 ∷ b4 ∷ b5 ∷ b6 ∷ b7 ∷ b8 ∷ b9 ∷ b10 ∷ []))) q
-unfolding changes
-ten-puts a1 a2 a3 a4 a5 a6 a7 a8 a9 a10 b1 b2 b3 b4 b5 b6 b7 b8 b9 b10 q =
-    sym
-    (first-puts 1 a1 b1 _ _ q
-    ∙ first-puts 2 a2 b2 _ _ _
-    ∙ first-puts 3 a3 b3 _ _ _
-    ∙ first-puts 4 a4 b4 _ _ _
-    ∙ first-puts 5 a5 b5 _ _ _
-    ∙ first-puts 6 a6 b6 _ _ _
-    ∙ first-puts 7 a7 b7 _ _ _
-    ∙ first-puts 8 a8 b8 _ _ _
-    ∙ first-puts 9 a9 b9 _ _ _
-    ∙ first-puts 10 a10 b10 [] [] _
-    ∙ last-puts 11 _)
+pub last-added : (s : ℕ) (p : Lent) → Added p (changes_text (changes_from s [] [])) p
+unfolding changes_from changes_text
+last-added s p = added_none p

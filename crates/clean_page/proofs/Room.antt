@@ -16,9 +16,9 @@ use Rattle.limits.specs.Count.{same_z}
 use Rattle.pages.specs.Decimal.{decimal}
 use Rattle.pages.specs.Page.{page, puts}
 use Rattle.pages.proofs.Pages.{Whole, whole-page as on-page}
-use Rattle.refusal_rules.specs.declared.answer.Answer.{Answer}
-use Rattle.refusal_rules.specs.declared.answer.Answer.TheVariants.{Accepted, Lengths, Orders, Paths, Kinds, Rows, Gains, Lags}
-use Rattle.refusal_rules.specs.Code.{code_of}
+use Rattle.refusal_rules.specs.declared.answer.Refusal.TheVariants.{Lengths, Orders, Paths, Kinds, Rows, Gains, Lags}
+use Rattle.refusal_rules.specs.Code.{Answer, code_of}
+use Rattle.std.specs.Prelude.{Ok, Err}
 use Rattle.refusal_rules.proofs.Room.{frame-within}
 use Rattle.steps.specs.Sizes.{sizes_of}
 use Rattle.steps.proofs.Outcomes.{accepted-good}
@@ -264,14 +264,14 @@ sheet-bytes s rows e = subst (FewRead s) e (few-read s)
 
 -- the number of an answer is one digit
 code-digit : (a : Answer) → code_of a < 10
-code-digit Accepted = omega arith
-code-digit Lengths = omega arith
-code-digit Orders = omega arith
-code-digit Paths = omega arith
-code-digit Kinds = omega arith
-code-digit Rows = omega arith
-code-digit Gains = omega arith
-code-digit Lags = omega arith
+code-digit (Ok u) = omega arith
+code-digit (Err Lengths) = omega arith
+code-digit (Err Orders) = omega arith
+code-digit (Err Paths) = omega arith
+code-digit (Err Kinds) = omega arith
+code-digit (Err Rows) = omega arith
+code-digit (Err Gains) = omega arith
+code-digit (Err Lags) = omega arith
 
 -- a refused sheet: `answer`, a space, the digit and a line feed, and the bytes
 pub refused-long : (s : List ℕ) (rows : List (List ℤ)) → reading s ≡ sheet rows → 0 < code_of (sheet_answer rows) → length (clean_text s) ≡ 9 + length s

@@ -4,4 +4,3 @@
 mod lines;
 pub mod page;
 mod sheet;
-mod words;

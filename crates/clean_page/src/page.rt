@@ -1,6 +1,7 @@
 // What the program `clean` prints, in a lent page.
 ghost use Rattle.std.specs.Prelude.{◌≡◌, ◌≤◌, length, take};
 ghost use Rattle.pages.specs.Page.{page as page_of, puts};
+ghost use Rattle.pages.specs.Added.{Added};
 ghost use Rattle.refusal_rules.specs.Code.{code_of};
 ghost use Rattle.sheet_print.specs.Rows.{rows_of};
 ghost use Rattle.sheet_page.specs.Calls.{sheet_answer};
@@ -8,41 +9,38 @@ ghost use Rattle.clean_page.specs.Sheets.{cleaned_rows};
 ghost use Rattle.clean_page.specs.Text.{became_text, refused_text, numbered_text, clean_text};
 
 use crate::{lines, sheet as cleaned};
-use pages::page;
-use plain_answers::answers;
+use pages::page::Page;
+use prefixes::prefix;
 use sheet_form::sheet;
-use sheet_form::sheet::{Sheet, Verdict};
+use sheet_form::sheet::Sheet;
 use sheet_page::call;
 use sheet_print::sheet as printed;
 use sheet_text::text;
 
 // A sheet that is accepted: a line for each number that cleaning changes, then the cleaned sheet.
-fn became(page: &mut [u8], read: Sheet) -> usize
-    ensures { page_of result page.new ≡ puts (became_text (rows_of read) (cleaned_rows (rows_of read))) (page_of 0 page.old) }
+fn became(page: &mut Page, read: &Sheet)
+    ensures { Added page.old (became_text (rows_of read.now) (cleaned_rows (rows_of read.now))) page.new }
 {
     let new = cleaned::clean(read);
-    let used = lines::changes(page, 0, read, new);
-    printed::print(page, used, new)
+    lines::changes(page, read, &new);
+    printed::print(page, &new);
 }
 
 // A sheet that is refused: its number, then its bytes as they came.
-fn refused(page: &mut [u8], number: u32, input: &[u8]) -> usize
-    ensures { page_of result page.new ≡ puts (refused_text number input.now) (page_of 0 page.old) }
+fn refused(page: &mut Page, number: u32, input: &[u8])
+    ensures { Added page.old (refused_text number input.now) page.new }
 {
-    let used = text::number_line(page, 0, b"answer ", number);
-    page::put_all(page, used, input)
+    text::number_line(page, b"answer ", number);
+    page.put_all(input);
 }
 
 // A sheet that could be read from the bytes.
-fn numbered(page: &mut [u8], input: &[u8], read: Sheet) -> usize
-    ensures { page_of result page.new
-        ≡ puts (numbered_text (code_of (sheet_answer (rows_of read))) input.now (rows_of read)) (page_of 0 page.old) }
+fn numbered(page: &mut Page, input: &[u8], read: &Sheet)
+    ensures { Added page.old (numbered_text (code_of (sheet_answer (rows_of read.now))) input.now (rows_of read.now)) page.new }
 {
-    let number = answers::number(call::checked(read));
-    if number == 0 {
-        became(page, read)
-    } else {
-        refused(page, number, input)
+    match call::checked(read) {
+        Ok(()) => became(page, read),
+        Err(why) => refused(page, why.number(), input),
     }
 }
 
@@ -50,24 +48,23 @@ fn numbered(page: &mut [u8], input: &[u8], read: Sheet) -> usize
 pub fn clean_page(input: &[u8], page: &mut [u8]) -> usize
     ensures { page_of result page.new ≡ puts (clean_text input.now) (page_of 0 page.old) }
 {
-    let s = sheet::read(input);
-    let verdict = s.verdict;
-    match verdict {
-        Verdict::Good => numbered(page, input, s),
-        Verdict::Fault(k) => text::fault(page, k),
+    match sheet::read(input) {
+        Ok(sheet) => {
+            let mut page = Page::on(page, 0);
+            numbered(&mut page, input, &sheet);
+            page.used()
+        }
+        Err(fault) => text::fault(page, fault.number),
     }
 }
 
 // The same of the first n bytes of the program's buffer, on the program's page. The buffer has room for one byte more than a sheet can have, so that
 // a longer sheet is known by its length; the page has room for every text, so that the first bytes of it, as many as are handed back, are the text.
+// One for each program: the sizes of its buffer and of its page stand in the types.
 pub fn whole(space: &[u8; 65537], n: usize, page: &mut [u8; 65545]) -> usize
     ensures page { page_of result page.new ≡ puts (clean_text (take n space.now)) (page_of 0 page.old) }
     ensures text { take result page.new ≡ clean_text (take n space.now) }
     ensures within { result ≤ length page.new }
 {
-    let all = &space[..];
-    if 65537 <= n {
-        return clean_page(all, &mut page[..]);
-    }
-    clean_page(&all[0..n], &mut page[..])
+    clean_page(prefix::first(space, n), page)
 }

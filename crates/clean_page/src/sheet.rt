@@ -3,54 +3,48 @@ ghost use Rattle.std.specs.Prelude.{◌≡◌};
 ghost use Rattle.sheet_print.specs.Rows.{rows_of};
 ghost use Rattle.clean_page.specs.Sheets.{cleaned_rows};
 
-use crate::words;
+use arrayvec::ArrayVec;
 use cleaning::call;
-use sheet_form::rows::{Row16, Row32};
 use sheet_form::sheet::Sheet;
-use sheet_page::call as sheet_call;
 use silk::structs::NsqState;
 
-// A row with this count.
-fn row16(count: usize, words: [i16; 320]) -> Row16
-    ensures { (result.count ≡ count) × (result.words ≡ words) }
+// A row of its own with the same numbers; the kit's `clone` of it is a Result too.
+fn copied<T: Copy + Default>(row: &ArrayVec<T, 320>) -> ArrayVec<T, 320>
+    ensures { result.items ≡ row.now.items }
 {
-    Row16 { count, words }
-}
-
-// The same for numbers of 32 bits.
-fn row32(count: usize, words: [i32; 320]) -> Row32
-    ensures { (result.count ≡ count) × (result.words ≡ words) }
-{
-    Row32 { count, words }
+    ArrayVec::try_from(row.as_slice()).unwrap()
 }
 
 // The samples, the LFs and the gains stay, and so do the counts. The sheet starts from a fresh state, whose lag decides about the harmonic gains.
-pub fn clean(read: Sheet) -> Sheet
-    ensures { rows_of result ≡ cleaned_rows (rows_of read) }
+pub fn clean(read: &Sheet) -> Sheet
+    ensures { rows_of result ≡ cleaned_rows (rows_of read.now) }
 {
-    let mut pred = words::words16(read.pred_coef);
-    let mut long = words::words16(read.ltp_coef);
-    let mut ar = words::words16(read.ar);
-    let mut harm = words::words32(read.harm_gains);
-    let mut tilt = words::words32(read.tilts);
-    let mut lags = words::words32(read.lags);
+    let mut pred_coef = copied(&read.pred_coef);
+    let mut ltp_coef = copied(&read.ltp_coef);
+    let mut ar = copied(&read.ar);
+    let mut harm_gains = copied(&read.harm_gains);
+    let mut tilts = copied(&read.tilts);
+    let mut lags = copied(&read.lags);
     let settings = call::clean(
         read.settings,
         NsqState::FRESH_LAG,
-        &mut pred[0..sheet_call::words_of(read.pred_coef.count)],
-        &mut long[0..sheet_call::words_of(read.ltp_coef.count)],
-        &mut ar[0..sheet_call::words_of(read.ar.count)],
-        &mut harm[0..sheet_call::words_of(read.harm_gains.count)],
-        &mut tilt[0..sheet_call::words_of(read.tilts.count)],
-        &mut lags[0..sheet_call::words_of(read.lags.count)],
+        pred_coef.as_mut_slice(),
+        ltp_coef.as_mut_slice(),
+        ar.as_mut_slice(),
+        harm_gains.as_mut_slice(),
+        tilts.as_mut_slice(),
+        lags.as_mut_slice(),
     );
-    let mut cleaned = read;
-    cleaned.settings = settings;
-    cleaned.pred_coef = row16(read.pred_coef.count, pred);
-    cleaned.ltp_coef = row16(read.ltp_coef.count, long);
-    cleaned.ar = row16(read.ar.count, ar);
-    cleaned.harm_gains = row32(read.harm_gains.count, harm);
-    cleaned.tilts = row32(read.tilts.count, tilt);
-    cleaned.lags = row32(read.lags.count, lags);
-    cleaned
+    Sheet {
+        settings,
+        samples: copied(&read.samples),
+        pred_coef,
+        ltp_coef,
+        ar,
+        harm_gains,
+        tilts,
+        lfs: copied(&read.lfs),
+        gains: copied(&read.gains),
+        lags,
+    }
 }

@@ -10,34 +10,37 @@ use clean_page::page;
 use fixed::wrap;
 use limits::count;
 use sheet_words::words;
-use sheet_words::words::Word;
 
-// The length of the next sheet. After the last one stands none, which is read as one that is too long.
-fn next_length() -> usize {
+// The length of the next sheet. After the last one stands none. As in `sheet_replay`: a program cannot be used by another.
+fn next_length() -> Option<usize> {
     let mut head = [0u8; 7];
     io::read_full(0, &mut head);
-    match words::number_of(&head[0..6]) {
-        Word::Is(z) => count::count(wrap::low32(z)),
-        Word::Unreadable => 65538,
-    }
+    let z = words::number_of(&head[..6])?;
+    Some(count::count(wrap::low32(z)))
 }
 
-// The next sheet, if there is one, read and cleaned as the program `clean` does it.
-fn replay() {
-    let length = next_length();
+// A sheet of this many bytes, read and cleaned as the program `clean` does it. The list has none that is longer than the buffer.
+fn replay(length: usize) {
     if 65537 < length {
         return;
     }
     let mut space = [0u8; 65537];
-    io::read_full(0, &mut space[0..length]);
+    io::read_full(0, &mut space[..length]);
     let mut page = [0u8; 65545];
     let used = page::whole(&space, length, &mut page);
     io::write_all(1, &page[..used]);
 }
 
+// The next sheet, if there is one.
+fn next() {
+    if let Some(length) = next_length() {
+        replay(length);
+    }
+}
+
 // All sheets of the list, at most 512.
 fn main() {
-    for k in 0usize..512 {
-        replay();
+    for _ in 0..512 {
+        next();
     }
 }

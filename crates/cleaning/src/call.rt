@@ -8,7 +8,8 @@ use crate::rows;
 use silk::structs::Settings;
 
 // A call's settings and rows with every number cleared that doesn't count: the rows in place, the settings handed back. The samples, the LFs and the
-// gains count whole, and of the state only lagPrev is looked at; so the contract speaks of every state with that lagPrev.
+// gains count whole, and of the state only lagPrev is looked at; so the contract speaks of every state with that lagPrev. The rows
+// are parameters: whoever holds them lends them, without a sheet.
 pub fn clean(
     s: Settings,
     lagPrev: i32,

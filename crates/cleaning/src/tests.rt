@@ -1,9 +1,9 @@
 // Which numbers of a call count: docs/RULES.md, "What counts". Each function is one test of specs/Cleaned.antt or one of the conditions that those
 // go by, and none asks anything of its caller.
-ghost use Rattle.std.specs.Prelude.{◌≡◌, pos, suc, eqb, ltb};
+ghost use Rattle.std.specs.Prelude.{◌≡◌, pos, ltb};
 ghost use Rattle.limits.specs.Count.{nat_z, same_z};
 ghost use Rattle.counts.specs.Conditions.{voiced as is_voiced, one_row, row_zero_only, no_lag};
-ghost use Rattle.cleaning.specs.Cleaned.{row0_counts, row1_counts, pred_counts, ar_counts, lag_counts};
+ghost use Rattle.cleaning.specs.Cleaned.{row0_counts, row1_counts, pred_counts, ar_counts};
 
 use limits::count;
 use silk::structs::Settings;
@@ -33,14 +33,14 @@ fn two(s: Settings) -> bool
 fn row_zero_only(s: Settings) -> bool
     ensures { result ≡ row_zero_only s }
 {
-    if two(s) { !one_row(s) } else { false }
+    two(s) && !one_row(s)
 }
 
 // Not voiced, and no lag from the frame before.
 pub fn no_lag(s: Settings, lagPrev: i32) -> bool
     ensures { result ≡ no_lag s lagPrev }
 {
-    if voiced(s) { false } else { lagPrev == 0 }
+    !voiced(s) && lagPrev == 0
 }
 
 // Slot i is one of the order's.
@@ -54,31 +54,21 @@ fn below(order: i32, i: usize) -> bool
 fn row0(s: Settings, i: usize) -> bool
     ensures { result ≡ row0_counts s i }
 {
-    if one_row(s) {
-        false
-    } else {
-        below(s.predictLPCOrder, i)
-    }
+    !one_row(s) && below(s.predictLPCOrder, i)
 }
 
 // As a slot of row 1, which begins at place 16.
 fn row1(s: Settings, i: usize) -> bool
     ensures { result ≡ row1_counts s i }
 {
-    if row_zero_only(s) {
-        return false;
-    }
-    if i < 16 {
-        return false;
-    }
-    below(s.predictLPCOrder, i - 16)
+    !row_zero_only(s) && (16 <= i && below(s.predictLPCOrder, i - 16))
 }
 
 // PredCoef, place i.
 pub fn pred(s: Settings, i: usize) -> bool
     ensures { result ≡ pred_counts s i }
 {
-    if row0(s, i) { true } else { row1(s, i) }
+    row0(s, i) || row1(s, i)
 }
 
 // AR, place i: a slot of a subframe's 24.
@@ -86,18 +76,4 @@ pub fn ar(s: Settings, i: usize) -> bool
     ensures { result ≡ ar_counts s i }
 {
     below(s.shapingLPCOrder, i % 24)
-}
-
-// Place i is the last of m. No i + 1, which may leave its type.
-fn last(m: usize, i: usize) -> bool
-    ensures { result ≡ eqb (suc i) m }
-{
-    if m == 0 { false } else { i == m - 1 }
-}
-
-// Place i of m lags: all in a voiced frame, else the last.
-pub fn lag(s: Settings, m: usize, i: usize) -> bool
-    ensures { result ≡ lag_counts s m i }
-{
-    if voiced(s) { true } else { last(m, i) }
 }

@@ -1,28 +1,20 @@
 // The end of a frame: the last flush, what is left for the next one, and the report.
-ghost use Rattle.std.specs.Prelude.{◌≡◌, List, ◌+◌, ◌-◌, ◌*◌, ◌<◌, ◌≤◌, length, ℤ, pos};
+ghost use Rattle.std.specs.Prelude.{◌≡◌, ◌+◌, ◌-◌, ◌*◌, ◌<◌, ◌≤◌, length, get_or, [], pos};
 ghost use Rattle.fixed.specs.Iter.{either};
-ghost use Rattle.path.specs.Data.{running};
+ghost use Rattle.path.specs.Data.{no_path};
 ghost use Rattle.steps.specs.Call.{since_by, rewhites_by};
-ghost use Rattle.steps.specs.Frame.{framed_of, left_by, done_of, ended_by};
+ghost use Rattle.steps.specs.Frame.{left_by, done_of, ended_by};
+ghost use Rattle.steps.specs.Lent.{framed_at};
 ghost use Rattle.steps.specs.Report.{differ, best_row};
 
 use crate::report;
 use edges::ends;
-use frame::step::Frame;
-use path::structs::Path;
+use edges::ends::Fit;
+use path::structs::Frame;
 use silk::structs::NsqState;
-use steps::structs::Given;
+use steps::structs::{Coded, Given};
 use subframes::scalars;
 use tails::tail;
-
-// What an accepted call hands back beside its pulses.
-#[derive(Clone, Copy)]
-pub struct Handed {
-    pub seed: i32,
-    pub state: NsqState,
-    // at how many places the pulses differ from those that the final winner chose itself
-    pub report: i32,
-}
 
 // The length of k subframes of l samples.
 fn times(k: usize, l: usize) -> usize
@@ -51,40 +43,35 @@ fn shaping_end(g: Given) -> i32
     (4 * g.subfr_length + all) as i32
 }
 
-// Whether the last subframe was rewhitened: `rewhite_flag`.
+// Whether the last subframe was rewhitened: `rewhite_flag`, chosen as in the definition.
 fn rewhite_flag(g: Given) -> i32
     requires { 0 < g.nb_subfr }
     ensures { result ≡ either (rewhites_by g (g.nb_subfr - 1)) (pos 1) (pos 0) }
 {
     if scalars::rewhites(g, g.nb_subfr - 1) {
-        return 1;
+        1
+    } else {
+        0
     }
-    0
 }
 
-// The state that is left: by the last lag, the LPC words of the state before, the gain, the final winner with its LPC words,
-// and the rows after the last flush.
-fn left(
-    g: Given,
-    lag: i32,
-    words: [i32; 96],
-    gain: i32,
-    p: Path,
-    lpc: [i32; 96],
-    xq: [i16; 640],
-    shp: [i32; 640],
-) -> NsqState
-    requires { ((0 < g.nb_subfr) × (g.nb_subfr ≤ 4)) × (g.subfr_length ≤ 80) }
-    ensures { result ≡ left_by g lag words gain p lpc xq shp }
+// The state that is left by the last lag, the LPC words of the state before, and the frame after the last flush with its winner w.
+fn left(g: Given, lag: i32, words: [i32; 96], t: &Frame, w: usize) -> NsqState
+    requires { (((0 < g.nb_subfr) × (g.nb_subfr ≤ 4)) × (g.subfr_length ≤ 80)) × (w < 4) }
+    ensures { result ≡ left_by g lag words t.now.prev (get_or t.now.work.states.owns w no_path) (get_or t.now.work.states.lpcs w [])
+        t.now.work.xq t.now.work.sLTP_shp_Q14 }
 {
     let all = times(g.nb_subfr, g.subfr_length);
     let kept = 4 * g.subfr_length;
-    let mut history = xq;
-    let mut shaping = shp;
+    let mut history = t.work.xq;
+    let mut shaping = t.work.sLTP_shp_Q14;
     tail::moved_down16(&mut history, all, kept);
     tail::moved_down32(&mut shaping, all, kept);
+    let lpc = t.work.states.lpcs[w];
     let lpc_words = tail::words_from(words, lpc, g.subfr_length);
+    let p = t.work.states.owns[w];
     let ar_words = p.sAR2_Q14;
+    let gain = t.prev;
     NsqState {
         xq: history,
         sLTP_shp_Q14: shaping,
@@ -100,54 +87,32 @@ fn left(
     }
 }
 
-// The winner's last samples handed out, and what is left; `chosen` are the pulses that each path chose.
+// The winner's last samples handed out, and what is left.
 pub fn ended(
-    t: Frame,
-    lpc: [[i32; 96]; 4],
-    ring: [[[i32; 40]; 5]; 4],
-    chosen: &[[i8; 320]; 4],
-    xq: [i16; 640],
-    shp: [i32; 640],
+    mut t: Frame,
     pulses: &mut [i8],
     words: [i32; 96],
     last: i32,
     lag: i32,
     g: Given,
-) -> Handed
+) -> Coded
     requires { (((0 < g.nb_subfr) × (g.nb_subfr ≤ 4)) × (g.subfr_length ≤ 80)) × (((0 < g.nStates) × (g.nStates ≤ 4))
         × ((g.delay ≤ g.subfr_length) × ((g.nb_subfr * g.subfr_length ≤ length pulses.old) × (t.work.smpl_buf_idx < 40)))) }
-    ensures words { (ltp dgain : List ℤ) → done_of result.seed result.state pulses.new
-        ≡ ended_by g last lag words (framed_of (running t.work lpc ring ltp dgain xq shp pulses.old) t.sLTP t.prev) }
-    ensures report { result.report ≡ pos (differ pulses.new (best_row t.work.ps g.nStates chosen.now) (g.nb_subfr * g.subfr_length)) }
+    ensures words { done_of result.seed result.state pulses.new ≡ ended_by g last lag words (framed_at t pulses.old) }
+    ensures report { result.report ≡ pos (differ pulses.new (best_row t.work.states.owns g.nStates t.work.chosen) (g.nb_subfr * g.subfr_length)) }
 {
-    let work = t.work;
-    let owns = work.ps;
+    let owns = t.work.states.owns;
     let w = ends::best(owns, g.nStates);
     let own = owns[w];
-    let rings = ring[w];
-    let row = lpc[w];
-    let start = 4 * g.subfr_length;
     let all = times(g.nb_subfr, g.subfr_length);
-    let mut history = xq;
-    let mut shaping = shp;
-    ends::flushed(
-        &mut history,
-        &mut shaping,
-        pulses,
-        rings,
-        false,
-        last,
-        start,
-        g.delay,
-        all,
-        work.smpl_buf_idx,
-    );
-    let unlike = report::differ(pulses, &chosen[w], all);
+    let start = 4 * g.subfr_length;
+    ends::flushed(&mut t.work, pulses, w, Fit::Last(last), start, g.delay, all);
+    let unlike = report::differ(pulses, &t.work.chosen[w], all);
     let count = unlike as i32;
-    let state = left(g, lag, words, t.prev, own, row, history, shaping);
-    Handed {
+    let state = left(g, lag, words, &t, w);
+    Coded {
         seed: own.SeedInit,
-        state: state,
+        state,
         report: count,
     }
 }

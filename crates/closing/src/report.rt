@@ -4,7 +4,7 @@ ghost use Rattle.fixed.specs.Iter.{either};
 ghost use Rattle.limits.specs.Count.{same_z};
 ghost use Rattle.steps.specs.Report.{differ as differ_z};
 
-// 1 where two pulses differ, else 0.
+// 1 where two pulses differ, else 0: chosen as in the definition.
 fn unlike(a: i8, b: i8) -> usize
     ensures { (result ≡ either (same_z a b) 0 1) × (result ≤ 1) }
 {
@@ -22,6 +22,7 @@ pub fn differ(out: &[i8], own: &[i8; 320], n: usize) -> usize
     ensures { (result ≡ differ_z out.now own.now n) × (result ≤ n) }
 {
     let mut m = 0;
+    // By place: tried over `out[..n].iter().zip(&own[..n])`; that the invariant is preserved, and the count at the end, stayed open.
     for h in 0..n {
         let a = out[h];
         let b = own[h];

@@ -5,28 +5,26 @@ use native.Mathlib.Omega.{arith}
 use native.Mathlib.Nat.{mod-eq_of_lt}
 use mathlib.Core.Path.{◌≡◌, refl, sym, ap, ◌∙◌}
 use mathlib.Core.Bool.{Bool, true, false, not}
-use mathlib.Core.List.{List, [], ◌∷◌}
-use mathlib.Core.Logic.{◌↔◌, ⊎_elim}
-use types.Run.{OneOf}
+use mathlib.Core.List.{List}
+use mathlib.Core.Logic.{◌↔◌}
 use lib.IntN.{ℤ, pos}
 use lib.Dec.{eqb, ltb}
 use borrow.Author.Tests.{eqb-true, eq-eqb, ltb-false, le-ltb, not-false}
-use denote.Enum.Declared.{tag_of}
 use Rattle.fixed.specs.Iter.{either}
 use Rattle.fixed.specs.Wrap.{mod_z}
 use Rattle.fixed.proofs.Lowest.{lowest, exactly-lowest, exactly-none}
 use Rattle.limits.specs.Count.{nat_z}
 use Rattle.limits.specs.Tests.{outside}
 use Rattle.limits.proofs.Laws.{or-false, inside, within}
-use Rattle.excitation.specs.declared.answer.Answer.{Answer}
-use Rattle.excitation.specs.declared.answer.Answer.TheVariants.{Accepted, Seeds, Kinds, Rows}
-use Rattle.excitation.specs.Code.{code_of}
+use Rattle.std.specs.Prelude.{Ok, Err}
+use Rattle.excitation.specs.declared.answer.Refusal.{Refusal}
+use Rattle.excitation.specs.declared.answer.Refusal.TheVariants.{Seeds, Kinds, Rows}
+use Rattle.excitation.specs.Code.{Answer, Accepted, code_of}
 use Rattle.excitation.specs.Refused.{seed_refused, kinds_refused, rows_refused, table, applies, answer_of}
 use Rattle.excitation.specs.Reading.{heard, heard_by}
-use Rattle.excitation.specs.contracts.answer.Answer as answer-type
 
 -- the number of the first answer whose test holds
-number : (a b c : Bool) → code_of (either a Seeds (either b Kinds (either c Rows Accepted))) ≡ either a 1 (either b 2 (either c 3 0))
+number : (a b c : Bool) → code_of (either a (Err Seeds) (either b (Err Kinds) (either c (Err Rows) Accepted))) ≡ either a 1 (either b 2 (either c 3 0))
 number true b c = refl
 number false true c = refl
 number false false true = refl
@@ -114,29 +112,19 @@ pub seed-word : (seed : ℤ) → seed ≡ pos (nat_z seed) → nat_z seed ≤ 3 
 seed-word seed e h = ap (λ (z : ℤ). mod_z z (2 ^ 32)) e ∙ mod-eq_of_lt (let z : nat_z seed < 2 ^ 32 = omega arith in z)
 
 -- ---- a match on an answer
--- its tag is its number
-tag-code : (a : Answer) → tag_of answer-type.the_type a ≡ code_of a
-tag-code Accepted = refl
-tag-code Seeds = refl
-tag-code Kinds = refl
-tag-code Rows = refl
-
 -- the arm for accepted
-pub accepted-tag : (a : Answer) → tag_of answer-type.the_type a ≡ 0 → code_of a ≡ 0
-accepted-tag a e = sym (tag-code a) ∙ e
+pub accepted-tag : (a : Answer) → a ≡ Accepted → code_of a ≡ 0
+accepted-tag a e = ap code_of e
 
 -- where it is accepted the row has the values
 pub heard-accepted : (a : Answer) (values row : List ℤ) → code_of a ≡ 0 → heard_by a values row ≡ heard Accepted values
 unfolding heard_by
-heard-accepted Accepted values row e = refl
-heard-accepted Seeds values row e = absurd (omega arith)
-heard-accepted Kinds values row e = absurd (omega arith)
-heard-accepted Rows values row e = absurd (omega arith)
+heard-accepted (Ok u) values row e = refl
+heard-accepted (Err Seeds) values row e = absurd (omega arith)
+heard-accepted (Err Kinds) values row e = absurd (omega arith)
+heard-accepted (Err Rows) values row e = absurd (omega arith)
 
--- the arm for every other answer, with the row as it was
-pub heard-refused : (a : Answer) (values row : List ℤ) → OneOf (1 ∷ 2 ∷ 3 ∷ []) (tag_of answer-type.the_type a) → heard_by a values row ≡ heard a row
+-- the arm for every refusal, with the row as it was
+pub heard-refused : (why : Refusal) (values row : List ℤ) → heard_by (Err why) values row ≡ heard (Err why) row
 unfolding heard_by
-heard-refused Accepted values row o = absurd (⊎_elim (λ h. omega arith) (⊎_elim (λ h. omega arith) (λ h. omega arith)) o)
-heard-refused Seeds values row o = refl
-heard-refused Kinds values row o = refl
-heard-refused Rows values row o = refl
+heard-refused why values row = refl

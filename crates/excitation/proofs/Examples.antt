@@ -6,7 +6,9 @@ use lib.ListN.{replicate}
 use lib.IntN.{ℤ, pos, negsuc}
 use Rattle.limits.specs.Tests.{outside}
 use Rattle.rfc6716.specs.Excitation.{offset_Q23, value, next_seed, negates, signed, seed_after, pulse, excitation}
-use Rattle.excitation.specs.declared.answer.Answer.TheVariants.{Accepted, Seeds, Kinds, Rows}
+use Rattle.excitation.specs.declared.answer.Refusal.TheVariants.{Seeds, Kinds, Rows}
+use Rattle.excitation.specs.Code.{Accepted}
+use Rattle.std.specs.Prelude.{Err}
 use Rattle.excitation.specs.Refused.{seed_refused, kinds_refused, rows_refused, table, answer_of}
 use Rattle.excitation.specs.Reading.{heard, heard_row, heard_by, reading}
 
@@ -47,12 +49,12 @@ empty = refl
 
 -- each refusal, with the row as it was; where several apply it is the lowest
 pub refused :
-    (reading (pos 4) (pos 3) (pos 0) [] (lent 2) ≡ heard Seeds (lent 2))
-    × (reading (negsuc 0) (pos 0) (pos 0) [] [] ≡ heard Seeds [])
-    × (reading (pos 256) (pos 0) (pos 0) [] [] ≡ heard Seeds [])
-    × (reading (pos 0) (pos 3) (pos 0) [] (lent 2) ≡ heard Kinds (lent 2))
-    × (reading (pos 0) (pos 0) (pos 2) [] [] ≡ heard Kinds [])
-    × (reading (pos 0) (pos 0) (pos 0) [] (lent 2) ≡ heard Rows (lent 2))
-    × (reading (pos 0) (pos 0) (pos 0) (replicate 321 (pos 0)) (lent 321) ≡ heard Rows (lent 321))
+    (reading (pos 4) (pos 3) (pos 0) [] (lent 2) ≡ heard (Err Seeds) (lent 2))
+    × (reading (negsuc 0) (pos 0) (pos 0) [] [] ≡ heard (Err Seeds) [])
+    × (reading (pos 256) (pos 0) (pos 0) [] [] ≡ heard (Err Seeds) [])
+    × (reading (pos 0) (pos 3) (pos 0) [] (lent 2) ≡ heard (Err Kinds) (lent 2))
+    × (reading (pos 0) (pos 0) (pos 2) [] [] ≡ heard (Err Kinds) [])
+    × (reading (pos 0) (pos 0) (pos 0) [] (lent 2) ≡ heard (Err Rows) (lent 2))
+    × (reading (pos 0) (pos 0) (pos 0) (replicate 321 (pos 0)) (lent 321) ≡ heard (Err Rows) (lent 321))
 unfolding reading heard_by answer_of table seed_refused kinds_refused rows_refused outside
 refused = (refl, refl, refl, refl, refl, refl, refl)

@@ -1,10 +1,9 @@
 -- What comes of reading a frame's excitation, for every seed, type and row: an answer, and the row as it is left. The values are those of RFC
 -- 6716, 4.2.7.8.6, as the crate `rfc6716` writes them down. Assumes nothing.
-use Rattle.std.specs.Prelude.{List, length, ℤ}
+use Rattle.std.specs.Prelude.{List, length, ℤ, Ok, Err}
 use Rattle.limits.specs.Count.{nat_z}
 use Rattle.rfc6716.specs.Excitation.{offset_Q23, excitation}
-use Rattle.excitation.specs.declared.answer.Answer.{Answer}
-use Rattle.excitation.specs.declared.answer.Answer.TheVariants.{Accepted, Seeds, Kinds, Rows}
+use Rattle.excitation.specs.Code.{Answer, Accepted}
 use Rattle.excitation.specs.Refused.{answer_of}
 
 -- what the reader leaves
@@ -22,10 +21,8 @@ heard_row seed signalType offset_type pulses = (excitation (offset_Q23 (nat_z si
 
 -- by the answer: that row, or the lent one as it was
 unfoldable pub heard_by : Answer → List ℤ → List ℤ → Heard
-heard_by Accepted values row = heard Accepted values
-heard_by Seeds values row = heard Seeds row
-heard_by Kinds values row = heard Kinds row
-heard_by Rows values row = heard Rows row
+heard_by (Ok u) values row = heard Accepted values
+heard_by (Err why) values row = heard (Err why) row
 
 -- the reader, whole
 unfoldable pub reading : ℤ → ℤ → ℤ → List ℤ → List ℤ → Heard

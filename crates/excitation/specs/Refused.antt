@@ -1,10 +1,10 @@
 -- When the reader refuses, and with which number. Numbers are whole numbers of any size and sign, as they were given: seed 256 is not seed 0.
 -- Assumes nothing.
-use Rattle.std.specs.Prelude.{ℕ, Bool, false, not, ◌||◌, List, [], ◌∷◌, get_or, ℤ, pos, eqb, ltb}
+use Rattle.std.specs.Prelude.{ℕ, Bool, false, not, ◌||◌, List, [], ◌∷◌, get_or, ℤ, pos, eqb, ltb, Err}
 use Rattle.fixed.specs.Iter.{either}
 use Rattle.limits.specs.Tests.{outside}
-use Rattle.excitation.specs.declared.answer.Answer.{Answer}
-use Rattle.excitation.specs.declared.answer.Answer.TheVariants.{Accepted, Seeds, Kinds, Rows}
+use Rattle.excitation.specs.declared.answer.Refusal.TheVariants.{Seeds, Kinds, Rows}
+use Rattle.excitation.specs.Code.{Answer, Accepted}
 
 -- 1: the seed is not one of 0 to 3
 unfoldable pub seed_refused : ℤ → Bool
@@ -30,4 +30,4 @@ applies seed signalType offset_type pulses row k = get_or (table seed signalType
 -- the answer with the lowest number that applies, else accepted
 unfoldable pub answer_of : ℤ → ℤ → ℤ → ℕ → ℕ → Answer
 answer_of seed signalType offset_type pulses row =
-    let is = applies seed signalType offset_type pulses row in either (is 1) Seeds (either (is 2) Kinds (either (is 3) Rows Accepted))
+    let is = applies seed signalType offset_type pulses row in either (is 1) (Err Seeds) (either (is 2) (Err Kinds) (either (is 3) (Err Rows) Accepted))

@@ -2,23 +2,25 @@
 ghost use Rattle.std.specs.Prelude.{◌≡◌};
 ghost use Rattle.excitation.specs.Code.{code_of};
 
-// Accepted, or why not, in the order of the numbers.
-#[derive(Clone, Copy)]
-pub enum Answer {
-    Accepted,
+// Why the reader refuses, in the order of the numbers.
+#[derive(Clone, Copy, PartialEq, Eq, Debug)]
+pub enum Refusal {
     Seeds,
     Kinds,
     Rows,
 }
 
-// The number of an answer.
+// Accepted, or why not.
+pub type Answer = Result<(), Refusal>;
+
+// The number of an answer, accepted or not, which is why it is no `From` of a refusal.
 pub fn number(a: Answer) -> u32
     ensures { result ≡ code_of a }
 {
     match a {
-        Answer::Accepted => 0,
-        Answer::Seeds => 1,
-        Answer::Kinds => 2,
-        Answer::Rows => 3,
+        Ok(()) => 0,
+        Err(Refusal::Seeds) => 1,
+        Err(Refusal::Kinds) => 2,
+        Err(Refusal::Rows) => 3,
     }
 }

@@ -2,9 +2,9 @@
 ghost use Rattle.std.specs.Prelude.{◌≡◌, ◌^◌, pos, ◌≤ℤ◌};
 ghost use Rattle.fixed.specs.Wrap.{mod_z, wrap32};
 ghost use Rattle.rfc6716.specs.Excitation.{value as value_z, next_seed, signed, seed_after};
-ghost use Rattle.residuals.specs.Residual.{turned as turned_z};
 
 use fixed::wrap;
+use residuals::residual;
 use seeds::generator;
 use shifts::shift;
 
@@ -29,16 +29,6 @@ fn value(offset: i32, x: i32) -> i32
     wrap::add32(v, offset)
 }
 
-// The sign step: v, negated where the generator's word is negative, which is where its bit 31 is set.
-fn turned(seed: i32, v: i32) -> i32
-    ensures { result ≡ turned_z seed v }
-{
-    if seed < 0 {
-        return wrap::neg32(v);
-    }
-    v
-}
-
 // One pulse: the generator steps, the value takes its sign from the new word, and the pulse is added to that word with its own sign.
 pub fn pulse(offset: i32, seed: i32, x: i8) -> After
     requires { (pos 0 ≤ℤ offset) × (offset ≤ℤ pos 60) }
@@ -50,7 +40,7 @@ pub fn pulse(offset: i32, seed: i32, x: i8) -> After
     let after = wrap::add32(next, p);
     let v = value(offset, p);
     After {
-        e_Q23: turned(next, v),
+        e_Q23: residual::turned(next, v),
         seed: after,
     }
 }

@@ -25,10 +25,10 @@ fn fill(offset: i32, first: i32, pulses: &[i8], row: &mut [i32])
     ensures { row.new ≡ (excitation_z offset (mod_z first (2 ^ 32)) pulses.now).e_Q23 }
 {
     let mut seed = first;
-    for i in 0..pulses.len() {
-        let t = pulse::pulse(offset, seed, pulses[i]);
-        let e = t.e_Q23;
-        row[i] = e;
+    // By place: over `row.iter_mut().zip(pulses)` the loop's goals have no name for what the row holds so far.
+    for (i, x) in pulses.iter().enumerate() {
+        let t = pulse::pulse(offset, seed, *x);
+        row[i] = t.e_Q23;
         seed = t.seed;
     }
 }
@@ -44,13 +44,8 @@ pub fn excitation(
 ) -> Answer
     ensures { heard result row.new ≡ reading seed signal_type offset_type pulses.now row.old }
 {
-    let answer = refusals::check(seed, signal_type, offset_type, pulses.len(), row.len());
-    match answer {
-        Answer::Accepted => {
-            let offset = offset_of(count::count(signal_type), count::count(offset_type));
-            fill(offset, seed, pulses, row);
-            Answer::Accepted
-        }
-        _ => answer,
-    }
+    refusals::check(seed, signal_type, offset_type, pulses.len(), row.len())?;
+    let offset = offset_of(count::count(signal_type), count::count(offset_type));
+    fill(offset, seed, pulses, row);
+    Ok(())
 }

@@ -1,46 +1,41 @@
 // When the reader refuses.
-ghost use Rattle.std.specs.Prelude.{◌≡◌};
+ghost use Rattle.std.specs.Prelude.{◌≡◌, Err};
 ghost use Rattle.fixed.specs.Iter.{either};
-ghost use Rattle.excitation.specs.declared.answer.Answer.TheVariants.{Accepted, Seeds, Kinds, Rows};
+ghost use Rattle.excitation.specs.declared.answer.Refusal.TheVariants.{Seeds, Kinds, Rows};
+ghost use Rattle.excitation.specs.Code.{Accepted};
 ghost use Rattle.excitation.specs.Refused.{kinds_refused, rows_refused, answer_of};
 
-use crate::answer::Answer;
+use crate::answer::{Answer, Refusal};
 use setting_limits::settings;
 
 // 2: the signal type or the offset type is not one of the RFC's.
 fn kinds_refused(signal_type: i32, offset_type: i32) -> bool
     ensures { result ≡ kinds_refused signal_type offset_type }
 {
-    if settings::outside(0, 2, signal_type) {
-        return true;
-    }
-    settings::outside(0, 1, offset_type)
+    settings::outside(0, 2, signal_type) || settings::outside(0, 1, offset_type)
 }
 
 // 3: the rows differ in length, or are longer than a frame can be.
 fn rows_refused(pulses: usize, row: usize) -> bool
     ensures { result ≡ rows_refused pulses row }
 {
-    if pulses != row {
-        return true;
-    }
-    320 < pulses
+    pulses != row || 320 < pulses
 }
 
 // The answer with the lowest number among those that apply.
 fn lowest(seeds: bool, kinds: bool, rows: bool) -> Answer
-    ensures { result ≡ either seeds Seeds (either kinds Kinds (either rows Rows Accepted)) }
+    ensures { result ≡ either seeds (Err Seeds) (either kinds (Err Kinds) (either rows (Err Rows) Accepted)) }
 {
     if seeds {
-        return Answer::Seeds;
+        return Err(Refusal::Seeds);
     }
     if kinds {
-        return Answer::Kinds;
+        return Err(Refusal::Kinds);
     }
     if rows {
-        return Answer::Rows;
+        return Err(Refusal::Rows);
     }
-    Answer::Accepted
+    Ok(())
 }
 
 // The answer to a call. Of the rows the lengths are given.

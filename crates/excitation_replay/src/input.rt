@@ -19,88 +19,82 @@ pub struct Run {
     pub end: u8,
 }
 
-// The next byte, 0 after the last.
+// The next byte, 0 after the last: no list has a 0, and a run of separators ends with it as with a line's end. As in `nsq_replay`, since a program
+// cannot be used by another.
 pub fn byte() -> u8 {
-    let mut one = [0u8; 1];
+    let mut one = [0];
     io::read_full(0, &mut one);
     one[0]
 }
 
-// One digit more; a number stays below 2^40.
+// One digit more; a number stays below 2^40. As in `nsq_replay`.
 fn grown(v: u64, b: u8) -> u64
     requires { v < 1099511627776 }
     ensures { result < 1099511627776 }
 {
-    if b < 48 || 57 < b {
-        return v;
+    if b.is_ascii_digit() {
+        (v * 10 + (b - b'0') as u64) % 1099511627776
+    } else {
+        v
     }
-    (v * 10 + (b - 48) as u64) % 1099511627776
-}
-
-// A number with its sign.
-fn signed(minus: bool, v: u64) -> i32
-    requires { v < 1099511627776 }
-{
-    if minus {
-        return wrap::neg32(wrap::low32(v as i64));
-    }
-    wrap::low32(v as i64)
 }
 
 // The next number.
 pub fn number() -> Token {
     let first = byte();
     let mut v = grown(0, first);
-    let mut b = 0u8;
-    for i in 0usize..12 {
-        b = byte();
-        if b == 42 || b <= 32 {
+    let mut end = 0;
+    for _ in 0..12 {
+        end = byte();
+        if end == b'*' || end <= b' ' {
             break;
         }
-        v = grown(v, b);
+        v = grown(v, end);
     }
-    Token {
-        value: signed(first == 45, v),
-        end: b,
-    }
+    let size = wrap::low32(v as i64);
+    let value = if first == b'-' {
+        wrap::neg32(size)
+    } else {
+        size
+    };
+    Token { value, end }
 }
 
 // The next number, with how many times it stands.
 pub fn next_run() -> Run {
-    let t = number();
-    if t.end == 42 {
-        let c = number();
+    let Token { value, end } = number();
+    if end != b'*' {
         return Run {
-            value: t.value,
-            times: count::count(c.value),
-            end: c.end,
+            value,
+            times: 1,
+            end,
         };
     }
+    let times = number();
     Run {
-        value: t.value,
-        times: 1,
-        end: t.end,
+        value,
+        times: count::count(times.value),
+        end: times.end,
     }
 }
 
 // The rest of a line passed over.
 pub fn skip() {
-    for i in 0usize..4096 {
-        if byte() <= 10 {
-            return;
+    for _ in 0..4096 {
+        if byte() <= b'\n' {
+            break;
         }
     }
 }
 
-// A name printed, whose first byte was read already.
+// A name printed byte for byte, whose first byte was read already.
 pub fn echo(first: u8) {
     let mut b = first;
-    for i in 0usize..64 {
-        if b <= 32 {
-            return;
+    for _ in 0..64 {
+        if b <= b' ' {
+            break;
         }
-        let one = [b];
-        io::write_all(1, &one);
+        io::write_all(1, &[b]);
         b = byte();
     }
 }

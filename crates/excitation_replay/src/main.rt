@@ -11,9 +11,12 @@ mod input;
 mod print;
 mod rows;
 
+use std::io;
+
 // All lines of the list, at most 512.
-fn main() {
-    for k in 0usize..512 {
-        rows::next();
+fn main(rt: HostRuntime) -> io::Result<()> {
+    for _ in 0..512 {
+        rows::next(&rt)?;
     }
+    Ok(())
 }

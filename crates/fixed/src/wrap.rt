@@ -4,6 +4,9 @@ ghost use Rattle.std.specs.Prelude.{◌≡◌, ◌+ℤ◌, ◌-ℤ◌, ◌*ℤ�
 ghost use Rattle.fixed.specs.Wrap.{wrap32, wrap16, wrap8};
 ghost use Rattle.fixed.specs.Shift.{shr};
 
+// Four casts of the Rust, each a function of its own: a trait over their types would have the definitions `wrap32`, `wrap16` and `wrap8` as its law
+// and be no shorter, and the theorems above name these.
+
 // The low 32 bits of x, with their sign: `x as i32`.
 pub fn low32(x: i64) -> i32
     ensures { result ≡ wrap32 x }
@@ -35,23 +38,23 @@ pub fn low8(x: i32) -> i8
 pub fn add32(a: i32, b: i32) -> i32
     ensures { result ≡ wrap32 (a +ℤ b) }
 {
-    low32((a as i64) + (b as i64))
+    a.wrapping_add(b)
 }
 
 pub fn sub32(a: i32, b: i32) -> i32
     ensures { result ≡ wrap32 (a -ℤ b) }
 {
-    low32((a as i64) - (b as i64))
+    a.wrapping_sub(b)
 }
 
 pub fn neg32(a: i32) -> i32
     ensures { result ≡ wrap32 (neg_ℤ a) }
 {
-    low32(0 - (a as i64))
+    a.wrapping_neg()
 }
 
 pub fn mul32(a: i32, b: i32) -> i32
     ensures { result ≡ wrap32 (a *ℤ b) }
 {
-    low32((a as i64) * (b as i64))
+    a.wrapping_mul(b)
 }

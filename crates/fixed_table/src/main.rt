@@ -1,5 +1,6 @@
-// Tables of every function of `fixed`, `shifts`, `products`, `seeds` and `program_words` on edge values: the ends of each type, numbers around each power of two that is a
-// shift, a rounding or a saturation edge, and two words with mixed bits. One line of results for each first argument.
+// Tables of every function of `fixed`, `shifts`, `products` and `seeds`, and of std's methods that the programs use in their places, on edge values: the
+// ends of each type, numbers around each power of two that is a shift, a rounding or a saturation edge, and two words with mixed bits. One line of
+// results for each first argument.
 //
 // The file `stdout` was not made by this program. tests/rust/fixed_table.rs writes the same tables with the Rust
 // expressions themselves (`wrapping_add`, `as i16`, `>>`, ..), built without overflow checks:
@@ -8,9 +9,10 @@
 
 use fixed::wrap;
 use products::product;
-use program_words::bits;
 use seeds::generator;
 use shifts::{range, shift};
+use std::fmt::Display;
+use std::io;
 
 const WORDS: [i32; 24] = [
     -2147483648,
@@ -65,169 +67,131 @@ const WIDE: [i64; 16] = [
     9223372036854775807,
 ];
 
-// The functions by number: those below 14 take one word, the others two; some of the latter add their product to a constant.
-const UNARY: usize = 14;
-
-const FUNCTIONS: usize = 32;
-
-// The name of function `op`: its line of the text.
-fn name(op: usize) {
-    let names =
-        b"low16\nhigh16\nlow8\nneg32\nrshift_round4\nrshift_round5\nrshift_round8\nrshift_round10\nrshift_round12\nrshift_round14\nsat16\nabs32\nrand\nclamp32 to -31744 .. 30720\nadd32\nsub32\nmul32\nmul16\nsmulbb\nsmulwb\nsmulwt\nsmulww\nsmmul\nor32\nmin32\nshl32\nshr32\nsmlabb to 2147483647\nsmlawb to -2147483648\nsmlawt to 2147483647\nsmlaww to -2147483648\nsmlawb to -1\n";
-    let mut before = op;
-    for i in 0..335 {
-        let letter = [names[i]];
-        if before == 0 {
-            io::write_all(1, &letter);
-        }
-        if names[i] == 10 {
-            before = if before == 0 { 32 } else { before - 1 };
-        }
+// What f makes of each argument, and a space after each.
+fn results<A: Copy, B: Display + Drop, F: Fn(A) -> B>(
+    rt: &impl Print,
+    args: &[A],
+    f: F,
+) -> io::Result<()>
+    requires { F.IsAlwaysCallable f }
+{
+    for a in args {
+        print!(rt; "{} ", f(*a))?;
     }
+    Ok(())
 }
 
-fn apply1(op: usize, a: i32) -> i32 {
-    match op {
-        0 => bits::wide16(wrap::low16(a)),
-        1 => bits::wide16(wrap::high16(a)),
-        2 => bits::wide8(wrap::low8(a)),
-        3 => wrap::neg32(a),
-        4 => shift::rshift_round(a, 4),
-        5 => shift::rshift_round(a, 5),
-        6 => shift::rshift_round(a, 8),
-        7 => shift::rshift_round(a, 10),
-        8 => shift::rshift_round(a, 12),
-        9 => shift::rshift_round(a, 14),
-        10 => bits::wide16(range::sat16(a)),
-        11 => range::abs32(a),
-        12 => generator::rand(a),
-        _ => range::clamp32(a, -31744, 30720),
-    }
+// A function's name, and a line of what it makes of these arguments.
+fn row<A: Copy, B: Display + Drop, F: Fn(A) -> B>(
+    rt: &impl Print,
+    name: &str,
+    args: &[A],
+    f: F,
+) -> io::Result<()>
+    requires { F.IsAlwaysCallable f }
+{
+    println!(rt; "{name}")?;
+    results(rt, args, f)?;
+    println!(rt; "")
 }
 
-fn apply2(op: usize, a: i32, b: i32) -> i32 {
-    match op {
-        14 => wrap::add32(a, b),
-        15 => wrap::sub32(a, b),
-        16 => wrap::mul32(a, b),
-        17 => product::mul16(wrap::low16(a), wrap::low16(b)),
-        18 => product::smulbb(a, b),
-        19 => product::smulwb(a, wrap::low16(b)),
-        20 => product::smulwt(a, b),
-        21 => product::smulww(a, b),
-        22 => product::smmul(a, b),
-        23 => shift::or32(a, b),
-        24 => bits::min32(a, b),
-        25 => shift::shl32(a, bits::bits32(b)),
-        26 => shift::shr32(a, bits::bits32(b)),
-        27 => product::smlabb(2147483647, a, b),
-        28 => product::smlawb(-2147483648, a, wrap::low16(b)),
-        29 => product::smlawt(2147483647, a, b),
-        30 => product::smlaww(-2147483648, a, b),
-        _ => product::smlawb(-1, a, wrap::low16(b)),
-    }
+// The same of words and then of edges.
+fn row1<B: Display + Drop, F: Fn(i32) -> B>(rt: &impl Print, name: &str, f: F) -> io::Result<()>
+    requires { F.IsAlwaysCallable f }
+{
+    println!(rt; "{name}")?;
+    results(rt, &WORDS, &f)?;
+    results(rt, &EDGES, &f)?;
+    println!(rt; "")
 }
 
-// An unsigned number and the space after it.
-fn print_count(v: u32) {
-    io::print_decimal(1, v as u64);
-    io::write_all(1, b" ");
+// A function's name, and a line for each first word, of each second one.
+fn table<B: Display + Drop, F: Fn(i32, i32) -> B>(
+    rt: &impl Print,
+    name: &str,
+    f: F,
+) -> io::Result<()>
+    requires { F.IsAlwaysCallable f }
+{
+    println!(rt; "{name}")?;
+    for a in WORDS {
+        results(rt, &WORDS, |b| f(a, b))?;
+        println!(rt; "")?;
+    }
+    Ok(())
 }
 
-// A number and the space after it. The bits of |v| are |v| also for the least number, which has no negation.
-fn print(v: i32) {
-    if v < 0 {
-        io::write_all(1, b"-");
-    }
-    print_count(bits::bits32(range::abs32(v)));
+// The functions of one word.
+fn of_one(rt: &impl Print) -> io::Result<()> {
+    row1(rt, "low16", wrap::low16)?;
+    row1(rt, "high16", wrap::high16)?;
+    row1(rt, "low8", wrap::low8)?;
+    row1(rt, "neg32", wrap::neg32)?;
+    row1(rt, "rshift_round4", |a| shift::rshift_round(a, 4))?;
+    row1(rt, "rshift_round5", |a| shift::rshift_round(a, 5))?;
+    row1(rt, "rshift_round8", |a| shift::rshift_round(a, 8))?;
+    row1(rt, "rshift_round10", |a| shift::rshift_round(a, 10))?;
+    row1(rt, "rshift_round12", |a| shift::rshift_round(a, 12))?;
+    row1(rt, "rshift_round14", |a| shift::rshift_round(a, 14))?;
+    row1(rt, "sat16", range::sat16)?;
+    row1(rt, "abs32", range::abs32)?;
+    row1(rt, "rand", generator::rand)?;
+    row1(rt, "clamp32 to -31744 .. 30720", |a| {
+        range::clamp32(a, -31744, 30720)
+    })
 }
 
-fn end_line() {
-    io::write_all(1, b"\n");
+// The functions of two words.
+fn of_two(rt: &impl Print) -> io::Result<()> {
+    table(rt, "add32", wrap::add32)?;
+    table(rt, "sub32", wrap::sub32)?;
+    table(rt, "mul32", wrap::mul32)?;
+    table(rt, "mul16", |a, b| {
+        product::mul16(wrap::low16(a), wrap::low16(b))
+    })?;
+    table(rt, "smulbb", product::smulbb)?;
+    table(rt, "smulwb", |a, b| product::smulwb(a, wrap::low16(b)))?;
+    table(rt, "smulwt", product::smulwt)?;
+    table(rt, "smulww", product::smulww)?;
+    table(rt, "smmul", product::smmul)?;
+    table(rt, "or32", shift::or32)?;
+    table(rt, "min32", |a: i32, b| a.min(b))?;
+    table(rt, "shl32", |a, b: i32| shift::shl32(a, b.cast_unsigned()))?;
+    table(rt, "shr32", |a, b: i32| shift::shr32(a, b.cast_unsigned()))
 }
 
-fn row1(op: usize) {
-    name(op);
-    for i in 0..24 {
-        let a = WORDS[i];
-        print(apply1(op, a));
-    }
-    for i in 0..48 {
-        let a = EDGES[i];
-        print(apply1(op, a));
-    }
-    end_line();
-}
-
-fn row2(op: usize, a: i32) {
-    for j in 0..24 {
-        let b = WORDS[j];
-        print(apply2(op, a, b));
-    }
-    end_line();
-}
-
-fn table2(op: usize) {
-    name(op);
-    for i in 0..24 {
-        let a = WORDS[i];
-        row2(op, a);
-    }
+// A product added to a constant.
+fn of_two_and_a_sum(rt: &impl Print) -> io::Result<()> {
+    table(rt, "smlabb to 2147483647", |a, b| {
+        product::smlabb(i32::MAX, a, b)
+    })?;
+    table(rt, "smlawb to -2147483648", |a, b| {
+        product::smlawb(i32::MIN, a, wrap::low16(b))
+    })?;
+    table(rt, "smlawt to 2147483647", |a, b| {
+        product::smlawt(i32::MAX, a, b)
+    })?;
+    table(rt, "smlaww to -2147483648", |a, b| {
+        product::smlaww(i32::MIN, a, b)
+    })?;
+    table(rt, "smlawb to -1", |a, b| {
+        product::smlawb(-1, a, wrap::low16(b))
+    })
 }
 
 // The functions whose argument or result is of another type.
-fn row_low32() {
-    io::write_all(1, b"low32\n");
-    for i in 0..16 {
-        let a = WIDE[i];
-        print(wrap::low32(a));
-    }
-    end_line();
+fn of_other_types(rt: &impl Print) -> io::Result<()> {
+    row(rt, "low32", &WIDE, wrap::low32)?;
+    row(rt, "bits32", &WORDS, |a: i32| a.cast_unsigned())?;
+    row(rt, "clz32", &EDGES, shift::clz32)?;
+    table(rt, "mul_u32", |a: i32, b: i32| {
+        a.cast_unsigned().wrapping_mul(b.cast_unsigned())
+    })
 }
 
-fn row_bits32() {
-    io::write_all(1, b"bits32\n");
-    for i in 0..24 {
-        let a = WORDS[i];
-        print_count(bits::bits32(a));
-    }
-    end_line();
-}
-
-fn row_clz32() {
-    io::write_all(1, b"clz32\n");
-    for i in 0..48 {
-        let a = EDGES[i];
-        print_count(shift::clz32(a));
-    }
-    end_line();
-}
-
-fn table_u32() {
-    io::write_all(1, b"mul_u32\n");
-    for i in 0..24 {
-        let a = WORDS[i];
-        row_u32(bits::bits32(a));
-    }
-}
-
-fn row_u32(a: u32) {
-    for j in 0..24 {
-        let b = WORDS[j];
-        print_count(bits::mul_u32(a, bits::bits32(b)));
-    }
-    end_line();
-}
-
-fn main() {
-    for op in 0..UNARY {
-        row1(op);
-    }
-    for op in UNARY..FUNCTIONS {
-        table2(op);
-    }
-    row_low32();
-    row_bits32();
-    row_clz32();
-    table_u32();
+fn main(rt: HostRuntime) -> io::Result<()> {
+    of_one(&rt)?;
+    of_two(&rt)?;
+    of_two_and_a_sum(&rt)?;
+    of_other_types(&rt)
 }

@@ -11,7 +11,7 @@ use shifts::shift;
 fn at_least_one(gain: i32) -> i32
     ensures { (result ≡ at_least_one gain) × (pos 1 ≤ℤ result) }
 {
-    if gain > 1 { gain } else { 1 }
+    gain.max(1)
 }
 
 // The inverse of a gain.

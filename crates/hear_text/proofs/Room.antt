@@ -1,5 +1,5 @@
 -- How long a text can be: at most 2249 bytes, so that a page of 4096 holds the whole of it. Assumes nothing.
-use mathlib.Core.Path.{◌≡◌, refl, ◌∙◌, subst}
+use mathlib.Core.Path.{◌≡◌, refl, ◌∙◌}
 use mathlib.Core.Bool.{Bool, true, false}
 use mathlib.Core.List.{List, [], ◌∷◌}
 use Prim.Native.Nat.{ℕ, zero, suc, ◌+◌, ◌≤◌, ◌<◌}
@@ -16,21 +16,21 @@ use Rattle.limits.specs.Count.{nat_z}
 use Rattle.rfc6716.specs.Excitation.{offset_Q23, value, next_seed, signed, negates, pulse, turn, excitation}
 use Rattle.choice.proofs.Rfc.{value-lin, sign-size}
 use Rattle.pages.proofs.Pages.{puts-leaves}
-use Rattle.sheet_form.specs.Sections.{Reading, fault, sheet, triple, row, i8, after}
-use Rattle.sheet_form.specs.Rows.{take_section}
-use Rattle.sheet_form.specs.Sheets.{start_rest, end_of}
-use Rattle.sheet_form.proofs.Fitting.{bytes-section-fits}
+use Rattle.sheet_words.specs.Number.{Read, got, bad, run, separator}
+use Rattle.sheet_form.specs.Sections.{Reading, fault, sheet, triple, row, i8, section, after, or_fault, ended, sections}
+use Rattle.sheet_form.proofs.Fitting.{All, AllRead, bytes-section-fits}
+use lib.Dec.{eqb, ltb}
+use mir.Facts.{sfits_lit}
 use Rattle.sheet_form.proofs.Faults.{FaultMost, found-most}
 use Rattle.sheet_text.specs.Text.{line_of, answer_word}
 use Rattle.sheet_text.proofs.Short.{Small, AllSmall, all_more, line-one, lines-short, fault-short}
-use Rattle.excitation.specs.declared.answer.Answer.{Answer}
-use Rattle.excitation.specs.declared.answer.Answer.TheVariants.{Accepted, Seeds, Kinds, Rows}
-use Rattle.excitation.specs.Code.{code_of}
+use Rattle.std.specs.Prelude.{Ok, Err}
+use Rattle.excitation.specs.declared.answer.Refusal.TheVariants.{Seeds, Kinds, Rows}
+use Rattle.excitation.specs.Code.{Answer, code_of}
 use Rattle.excitation.specs.Refused.{answer_of}
 use Rattle.excitation.specs.Reading.{heard_row, heard_by, reading}
 use Rattle.excitation.proofs.Accepted.{accepted-good}
 use Rattle.hear_text.specs.Heard.{form, found, answer_text, heard_text, call_text, sections_text, text_of, hear_text}
-use Rattle.hear_text.proofs.Parts.{by-sections, two}
 use Rattle.hear_text.proofs.hear.hear.Reads as hear
 
 -- ---- the values
@@ -92,10 +92,10 @@ answer-most (suc n) values h k =
 
 heard-short : (a : Answer) (values lent : List ℤ) → (code_of a ≡ 0 → (length values ≤ 320) × AllSmall values) → length (heard_text (heard_by a values lent)) ≤ 2249
 unfolding heard_text heard_by
-heard-short Accepted values lent h = answer-most 0 values (omega arith) h
-heard-short Seeds values lent h = answer-most 1 lent (omega arith) (λ e. absurd (omega arith))
-heard-short Kinds values lent h = answer-most 2 lent (omega arith) (λ e. absurd (omega arith))
-heard-short Rows values lent h = answer-most 3 lent (omega arith) (λ e. absurd (omega arith))
+heard-short (Ok u) values lent h = answer-most 0 values (omega arith) h
+heard-short (Err Seeds) values lent h = answer-most 1 lent (omega arith) (λ e. absurd (omega arith))
+heard-short (Err Kinds) values lent h = answer-most 2 lent (omega arith) (λ e. absurd (omega arith))
+heard-short (Err Rows) values lent h = answer-most 3 lent (omega arith) (λ e. absurd (omega arith))
 
 call-short : (seed signalType offset_type : ℤ) (pulses : List ℤ) → ((i : ℕ) → SFits w8 (get_or pulses i (pos 0))) → length (call_text seed signalType offset_type pulses) ≤ 2249
 unfolding call_text reading
@@ -105,10 +105,44 @@ call-short seed signalType offset_type pulses fits =
     (λ e. (omega (arith, r.0, (accepted-good seed signalType offset_type (length pulses) (length (zeros (length pulses))) e).most), r.1))
 
 -- ---- every text
-text-short : (three pulses : List ℤ) (m : Reading) → FaultMost 3 (after three (after pulses m)) → ((i : ℕ) → SFits w8 (get_or pulses i (pos 0))) → length (text_of (after three (after pulses m))) ≤ 2249
-unfolding text_of after sections_text
-text-short three pulses (fault k) p fits = omega (arith, fault-short k (omega arith))
-text-short three pulses (sheet rows) p fits = call-short (get_or three 0 (pos 0)) (get_or three 1 (pos 0)) (get_or three 2 (pos 0)) pulses fits
+-- the pulses of a sheet that was read fit 8 bits
+abbrev PulsesFit : Reading → Type 0
+PulsesFit (fault k) = Unit {0}
+PulsesFit (sheet rows) = All w8 (get_or rows 1 [])
+
+zero-fits : All w8 []
+zero-fits i = sfits_lit tt
+
+ended-fit : (k : ℕ) (s : List ℕ) (three pulses : List ℤ) → All w8 pulses → PulsesFit (after three (after pulses (ended k s)))
+unfolding after ended
+ended-fit k s three pulses h = by_test (eqb (run separator s) (length s))
+  where
+    by_test : (b : Bool) → PulsesFit (after three (after pulses (either b (sheet []) (fault k))))
+    by_test true = h
+    by_test false = tt
+
+second-fit : (three : List ℤ) (m : Read (List ℤ)) → AllRead w8 m → PulsesFit (after three (or_fault 2 m (sections [] 3)))
+unfolding after or_fault sections
+second-fit three (got pulses s) h = ended-fit 3 s three pulses h
+second-fit three bad h = tt
+
+first-fit : (m : Read (List ℤ)) → PulsesFit (or_fault 1 m (sections (row i8 ∷ []) 2))
+unfolding or_fault sections
+first-fit (got three s) = second-fit three (section (row i8) s) (bytes-section-fits s)
+first-fit bad = tt
+
+either-fit : (b : Bool) (m : Reading) → PulsesFit m → PulsesFit (either b (fault 0) m)
+either-fit true m h = tt
+either-fit false m h = h
+
+pulses-fit : (s : List ℕ) → PulsesFit (found s)
+unfolding found form sections
+pulses-fit s = either-fit (ltb 65536 (length s)) (or_fault 1 (section triple s) (sections (row i8 ∷ []) 2)) (first-fit (section triple s))
+
+text-short : (m : Reading) → FaultMost 3 m → PulsesFit m → length (text_of m) ≤ 2249
+unfolding text_of sections_text
+text-short (fault k) p fits = omega (arith, fault-short k (omega arith))
+text-short (sheet rows) p fits = call-short (get_or (get_or rows 0 []) 0 (pos 0)) (get_or (get_or rows 0 []) 1 (pos 0)) (get_or (get_or rows 0 []) 2 (pos 0)) (get_or rows 1 []) fits
 
 found-fault : (s : List ℕ) → FaultMost 3 (found s)
 unfolding found form
@@ -117,13 +151,7 @@ found-fault s = found-most 3 form s (omega arith)
 -- no text is longer than 9 bytes for the answer's line and 7 for each of 320 values
 pub text-most : (s : List ℕ) → length (hear_text s) ≤ 2249
 unfolding hear_text
-text-most s =
-    let ρ0 = start_rest s in
-    let ρ1 = (take_section triple 1 ρ0).rest in
-    let ρ2 = (take_section (row i8) 2 ρ1).rest in
-    let m = after (take_section triple 1 ρ0).row (after (take_section (row i8) 2 ρ1).row (end_of 3 ρ2)) in
-    let e : found s ≡ m = by-sections ρ0 ρ1 ρ2 refl refl s refl ∙ two ρ0 ρ1 ρ2 refl refl in
-    rw e (text-short (take_section triple 1 ρ0).row (take_section (row i8) 2 ρ1).row (end_of 3 ρ2) (subst (FaultMost 3) e (found-fault s)) (bytes-section-fits 2 ρ1))
+text-most s = text-short (found s) (found-fault s) (pulses-fit s)
 
 -- so a page of 4096 bytes holds it: of what the contract leaves there the first bytes, as many as the code's count says, are the text
 pub hear-leaves : (κs a r e : _) → hear.Post κs a r e → length a.1.0.now ≡ 4096 → take r e.1.0.now ≡ hear_text a.0.now

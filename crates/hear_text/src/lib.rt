@@ -2,4 +2,5 @@
 #![tactic(auto)]
 
 mod answer;
+mod call;
 pub mod hear;

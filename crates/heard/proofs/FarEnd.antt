@@ -9,7 +9,7 @@ use lib.IntN.{ℤ, pos, ◌*ℤ◌}
 use mir.Syntax.{w32}
 use mir.Val.{SFits}
 use Rattle.fixed.specs.Row.{word}
-use Rattle.excitation.specs.declared.answer.Answer.TheVariants.{Accepted}
+use Rattle.excitation.specs.Code.{Accepted}
 use Rattle.excitation.specs.Code as excitation
 use Rattle.excitation.specs.Refused.{answer_of}
 use Rattle.excitation.specs.Reading.{Heard, heard, heard_row, reading}

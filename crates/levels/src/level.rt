@@ -15,15 +15,17 @@ pub struct Pair {
     pub rd2: i32,
 }
 
+// One function for each of the definition's four cases, which differ in a sign and in what is known of a level.
+
 fn above(p: i32, offset: i32, lambda: i32) -> Pair
     ensures { result ≡ above_z p offset lambda }
 {
     let q1 = wrap::add32(wrap::sub32(shift::shl32(p, 10), 80), offset);
     let q2 = wrap::add32(q1, 1024);
     Pair {
-        q1: q1,
+        q1,
         rd1: product::smulbb(q1, lambda),
-        q2: q2,
+        q2,
         rd2: product::smulbb(q2, lambda),
     }
 }
@@ -35,7 +37,7 @@ fn at_zero(offset: i32, lambda: i32) -> Pair
     Pair {
         q1: offset,
         rd1: product::smulbb(offset, lambda),
-        q2: q2,
+        q2,
         rd2: product::smulbb(q2, lambda),
     }
 }
@@ -45,7 +47,7 @@ fn at_minus_one(offset: i32, lambda: i32) -> Pair
 {
     let q1 = wrap::sub32(offset, 1024 - 80);
     Pair {
-        q1: q1,
+        q1,
         rd1: product::smulbb(wrap::neg32(q1), lambda),
         q2: offset,
         rd2: product::smulbb(offset, lambda),
@@ -58,9 +60,9 @@ fn below(p: i32, offset: i32, lambda: i32) -> Pair
     let q1 = wrap::add32(wrap::add32(shift::shl32(p, 10), 80), offset);
     let q2 = wrap::add32(q1, 1024);
     Pair {
-        q1: q1,
+        q1,
         rd1: product::smulbb(wrap::neg32(q1), lambda),
-        q2: q2,
+        q2,
         rd2: product::smulbb(wrap::neg32(q2), lambda),
     }
 }

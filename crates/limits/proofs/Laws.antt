@@ -64,6 +64,15 @@ pub or_elim : {C : Type 0} {a b : Bool} → (a ≡ true → C) → (b ≡ true �
 or_elim {a = true} f g e = f refl
 or_elim {a = false} f g e = g e
 
+-- `a || b` in the code: v is a where a holds, else b
+pub or-then : {v a : Bool} (b : Bool) → v ≡ a → a ≡ true → v ≡ (a || b)
+or-then {a = true} b e h = e
+or-then {a = false} b e h = let z : ◌≡◌ {A = ℕ} 0 1 = cc in absurd (omega arith)
+
+pub or-else : {v a b : Bool} → a ≡ false → v ≡ b → v ≡ (a || b)
+or-else {a = true} h e = let z : ◌≡◌ {A = ℕ} 0 1 = cc in absurd (omega arith)
+or-else {a = false} h e = e
+
 -- a number that is not outside a range of counts is a count of that range
 pub inside : (lo hi : ℕ) (z : ℤ) → outside (pos lo) (pos hi) z ≡ false → (z ≡ pos (nat_z z)) × ((lo ≤ nat_z z) × (nat_z z ≤ hi))
 unfolding outside

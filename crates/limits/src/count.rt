@@ -6,5 +6,5 @@ ghost use Rattle.limits.specs.Count.{nat_z};
 pub fn count(x: i32) -> usize
     ensures { result ≡ nat_z x }
 {
-    if x < 0 { 0 } else { x as usize }
+    usize::try_from(x).unwrap_or(0)
 }

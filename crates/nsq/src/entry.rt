@@ -6,16 +6,16 @@ ghost use Rattle.steps.specs.Lent.{call_at};
 ghost use Rattle.steps.specs.Sizes.{sizes_of};
 ghost use Rattle.silk.specs.declared.structs.Settings.{Settings};
 ghost use Rattle.silk.specs.declared.structs.NsqState.{NsqState};
-ghost use Rattle.steps.specs.Entry.{outcome_of, outcome};
+ghost use Rattle.steps.specs.Entry.{outcome, handed, reported};
 ghost use Rattle.steps.specs.Report.{report};
 
 use coding::accepted;
-use refusal_rules::answer::{Answer, Sizes};
+use refusal_rules::answer::{Refusal, Sizes};
 use refusals::check;
 use silk::structs::{NsqState, Settings};
-use steps::structs::Answered;
+use steps::structs::{Coded, Inputs};
 
-// How long the rows of a call are.
+// How long the rows of a call are, one by one as the entry is lent them.
 fn sizes(
     x: &[i16],
     pulses: &[i8],
@@ -42,8 +42,8 @@ fn sizes(
     }
 }
 
-// `silk_NSQ_del_dec_c`. Whatever it is given, the answer says whether the call was accepted, and if not, why: then the seed and
-// the state are those given, no pulse is touched and the report is 0.
+// `silk_NSQ_del_dec_c`. Whatever it is given: accepted, the next seed and state and the report come back; or why it is refused, and then
+// no pulse is touched, and the seed and the state are still those given. The rows are parameters of their own, as the interface for C lends them.
 pub fn silk_NSQ_del_dec(
     s: Settings,
     state: NsqState,
@@ -57,32 +57,25 @@ pub fn silk_NSQ_del_dec(
     lf: &[i32],
     gains: &[i32],
     lags: &[i32],
-) -> Answered
-    ensures outcome { outcome_of result.answer result.seed result.state pulses.new
+) -> Result<Coded, Refusal>
+    ensures outcome { handed s.Seed state result pulses.new
         ≡ outcome keeps_first (call_at s state pred.now long.now ar.now harm.now tilt.now lf.now gains.now lags.now) x.now pulses.old }
-    ensures report { result.report
+    ensures report { reported result
         ≡ pos (report keeps_first (call_at s state pred.now long.now ar.now harm.now tilt.now lf.now gains.now lags.now) x.now pulses.old) }
 {
     let z = sizes(x, pulses, pred, long, ar, harm, tilt, lf);
-    let answer = check::check(s, z, state.lagPrev, state.prev_gain_Q16, gains, lags);
-    match answer {
-        Answer::Accepted => {
-            let r = accepted::coded(
-                s, state, x, pulses, pred, long, ar, harm, tilt, lf, gains, lags,
-            );
-            let next = r.state;
-            Answered {
-                answer: answer,
-                seed: r.seed,
-                state: next,
-                report: r.report,
-            }
-        }
-        _ => Answered {
-            answer: answer,
-            seed: s.Seed,
-            state: state,
-            report: 0,
-        },
-    }
+    check::check(s, z, state.lagPrev, state.prev_gain_Q16, gains, lags)?;
+    let rows = Inputs {
+        x,
+        pred,
+        long,
+        ar,
+        tilt,
+        harm,
+        lf,
+        gains,
+        lags,
+    };
+    let r = accepted::coded(s, state, rows, pulses);
+    Ok(r)
 }

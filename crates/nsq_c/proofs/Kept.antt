@@ -13,8 +13,7 @@ use Rattle.fixed.specs.Iter.{either}
 use Rattle.silk.specs.declared.structs.NsqState.{NsqState}
 use Rattle.steps.specs.Among.{keeps_first}
 use Rattle.fixed.specs.Row.{word}
-use Rattle.refusal_rules.specs.declared.answer.Answer.{Answer}
-use Rattle.refusal_rules.specs.Code.{code_of}
+use Rattle.refusal_rules.specs.Code.{Answer, code_of}
 use Rattle.steps.specs.Call.{Call}
 use Rattle.steps.specs.Frame.{frame}
 use Rattle.steps.specs.Entry.{Outcome, answered, taken, untouched, outcome, outcome_by}

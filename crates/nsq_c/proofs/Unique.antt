@@ -1,14 +1,12 @@
 -- Each contract leaves one outcome, for every number and every row of every length. Assumes nothing.
-use mathlib.Core.Path.{◌≡◌, sym, ◌∙◌, ap, ap₂}
-use Prim.Native.Nat.{ℕ}
-use lib.IntN.{ℤ}
+use mathlib.Core.Path.{◌≡◌, sym, ◌∙◌, ap}
 use Rattle.plain_laid.specs.Laid.{Left}
+use Rattle.plain_laid.proofs.Unique.{same-reply}
 use Rattle.plain_fresh.specs.Fresh.{Freshly}
-use Rattle.wav_file.specs.declared.find.Found.{Found}
+use Rattle.wav_file.specs.Find.{Outcome}
 use Rattle.wav_file.specs.Fill.{Filled}
 use Rattle.nsq_c.specs.Heard.{Numbered}
 use Rattle.nsq_c.specs.Report.{Reported}
-use Rattle.nsq_c.specs.declared.calling.Replied.{Replied}
 use Rattle.nsq_c.proofs.heard.nsq_excitation.Reads as excitation
 use Rattle.nsq_c.proofs.fresh.nsq_fresh.Reads as fresh
 use Rattle.nsq_c.proofs.call.nsq_del_dec.Reads as call
@@ -34,13 +32,12 @@ pub nsq-del-dec-unique : (κs a r s e f : _) → call.Post κs a r e → call.Po
     → (r ≡ s) × ((e.0.now ≡ f.0.now) × ((e.1.0.now ≡ f.1.0.now) × ((e.1.1.0.now ≡ f.1.1.0.now) × (e.1.1.1.1.0.now ≡ f.1.1.1.1.0.now))))
 nsq-del-dec-unique κs a r s e f p q = parts (p ∙ sym q)
 
--- the number, the report, and the same four rows
+-- what comes back beside the rows, and the same four rows
 pub called-unique : (κs a r s e f : _) → called.Post κs a r e → called.Post κs a s f
     → (r ≡ s) × ((e.0.now ≡ f.0.now) × ((e.1.0.now ≡ f.1.0.now) × ((e.1.1.0.now ≡ f.1.1.0.now) × (e.1.1.1.1.0.now ≡ f.1.1.1.1.0.now))))
 called-unique κs a r s e f p q =
     let same = parts (p.0 ∙ sym q.0) in
-    let reply : ℕ → ℤ → Replied = λ n k. record { code = n; report = k } in
-    (ap₂ reply same.0 (p.1 ∙ sym q.1), same.1)
+    (same-reply r s same.0 (p.1 ∙ sym q.1), same.1)
 
 pub short-number-unique : (κs a r s e f : _) → short.Post κs a r e → short.Post κs a s f → r ≡ s
 short-number-unique κs a r s e f p q = p ∙ sym q
@@ -61,7 +58,7 @@ pub nsq-wav-find-unique : (κs a r s e f : _) → find.Post κs a r e → find.P
     → (r ≡ s) × ((e.1.0.now ≡ f.1.0.now) × ((e.1.1.0.now ≡ f.1.1.0.now) × (e.1.1.1.0.now ≡ f.1.1.1.0.now)))
 nsq-wav-find-unique κs a r s e f p q =
     let same = p ∙ sym q in
-    (ap (λ (o : Found). o.answer) same, (ap (λ (o : Found). o.start) same, (ap (λ (o : Found). o.length) same, ap (λ (o : Found). o.rate) same)))
+    (ap (λ (o : Outcome). o.answer) same, (ap (λ (o : Outcome). o.start) same, (ap (λ (o : Outcome). o.length) same, ap (λ (o : Outcome). o.rate) same)))
 
 -- the number and the row
 pub nsq-wav-samples-unique : (κs a r s e f : _) → samples.Post κs a r e → samples.Post κs a s f → (r ≡ s) × (e.1.0.now ≡ f.1.0.now)

@@ -1,9 +1,9 @@
 -- What comes of a call from C with a row for its report, for every row of every length: what comes of the call, and the row as it is left.
 -- Assumes nothing.
-use Rattle.std.specs.Prelude.{ℕ, List, length, set, ℤ, pos, eqb}
+use Rattle.std.specs.Prelude.{ℕ, List, length, set, ℤ, pos, eqb, Err}
 use Rattle.fixed.specs.Iter.{either}
 use Rattle.steps.specs.Among.{keeps_first}
-use Rattle.refusal_rules.specs.declared.answer.Answer.TheVariants.{Rows}
+use Rattle.refusal_rules.specs.declared.answer.Refusal.TheVariants.{Rows}
 use Rattle.refusal_rules.specs.Code.{code_of}
 use Rattle.steps.specs.Call.{Call}
 use Rattle.steps.specs.Report.{report}
@@ -15,7 +15,7 @@ use Rattle.nsq_c.specs.Rows.{called}
 
 -- the number of a call with a row of another length: the lowest of 1 to 4 that the settings give, else 5
 unfoldable pub short_number : List ℤ → ℕ
-short_number settings = either (eqb (length settings) 12) (code_of (stateless (settings_of settings))) (code_of Rows)
+short_number settings = either (eqb (length settings) 12) (code_of (stateless (settings_of settings))) (code_of (Err Rows))
 
 -- the report of a call: the entry's, where settings and state have their lengths; else it is refused, and the report 0
 unfoldable pub report_in : List ℤ → List ℤ → List ℤ → Call → List ℤ → List ℤ → ℕ

@@ -1,8 +1,8 @@
 -- What comes of a call from C, for every row of every length: a number, and each row as it is left. Assumes nothing.
-use Rattle.std.specs.Prelude.{List, length, ℤ, eqb}
+use Rattle.std.specs.Prelude.{List, length, ℤ, eqb, Err}
 use Rattle.fixed.specs.Iter.{either}
 use Rattle.steps.specs.Among.{keeps_first}
-use Rattle.refusal_rules.specs.declared.answer.Answer.TheVariants.{Rows}
+use Rattle.refusal_rules.specs.declared.answer.Refusal.TheVariants.{Rows}
 use Rattle.refusal_rules.specs.Code.{code_of}
 use Rattle.steps.specs.Call.{Call, call_of}
 use Rattle.steps.specs.Entry.{outcome}
@@ -20,7 +20,7 @@ called settings samples words c x out =
     (either (state_fits samples words)
     (laid settings samples words (outcome keeps_first c x out))
     (left_of (code_of (stateless (settings_of settings))) settings samples words out))
-    (left_of (code_of Rows) settings samples words out)
+    (left_of (code_of (Err Rows)) settings samples words out)
 
 -- that call
 abbrev pub call_in : List ℤ → List ℤ → List ℤ → List ℤ → List ℤ → List ℤ → List ℤ → List ℤ → List ℤ → List ℤ → List ℤ → Call

@@ -31,5 +31,8 @@ pub extern "C" fn nsq_del_dec(
     let r = calling::called(
         settings, samples, words, x, pulses, pred, long, ar, harm, tilt, lf, gains, lags,
     );
-    r.code
+    match r {
+        Ok(_) => 0,
+        Err(why) => why.number(),
+    }
 }

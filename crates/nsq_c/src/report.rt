@@ -37,9 +37,11 @@ pub extern "C" fn nsq_del_dec_report(
     let r = calling::called(
         settings, samples, words, x, pulses, pred, long, ar, harm, tilt, lf, gains, lags,
     );
-    if r.code == 0 {
-        let count = r.report;
-        report[0] = count;
+    match r {
+        Ok(count) => {
+            report[0] = count;
+            0
+        }
+        Err(why) => why.number(),
     }
-    r.code
 }

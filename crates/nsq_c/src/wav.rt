@@ -15,11 +15,20 @@ pub extern "C" fn nsq_wav_find(
 ) -> u32
     ensures { found_by result start.new length.new rate.new ≡ found file.now }
 {
-    let f = find::find(file);
-    *start = f.start as u32;
-    *length = f.length as u32;
-    *rate = f.rate;
-    f.answer
+    match find::find(file) {
+        Ok(f) => {
+            *start = f.start as u32;
+            *length = f.length as u32;
+            *rate = f.rate;
+            0
+        }
+        Err(refusal) => {
+            *start = 0;
+            *length = 0;
+            *rate = 0;
+            refusal.number()
+        }
+    }
 }
 
 // Writes the samples of such a part and returns 0; or returns 8, and leaves the row, where the part isn't twice as long as the row.
@@ -27,5 +36,8 @@ pub extern "C" fn nsq_wav_find(
 pub extern "C" fn nsq_wav_samples(part: &[u8], row: &mut [i16]) -> u32
     ensures { filled result row.new ≡ filling part.now row.old }
 {
-    samples::fill(part, row)
+    match samples::fill(part, row) {
+        Ok(()) => 0,
+        Err(refusal) => refusal.number(),
+    }
 }

@@ -1,59 +1,43 @@
-// FNV-1a of 64 bits over the bytes of 32-bit words, the lowest first. The 64 bits are held as two halves, since a product of 64
-// bits that wraps is unavailable.
-use program_words::bits;
+// The digests of a state: of the words that count, and of all of them.
+use digests::fnv::Fnv64;
+use silk::structs::NsqState;
 
-// The upper and the lower 32 bits.
-#[derive(Clone, Copy)]
-pub struct Sum {
-    pub high: u32,
-    pub low: u32,
+// With the first n words of a row more.
+fn words<T: Copy + Into<i32>>(start: Fnv64, row: &[T], n: usize) -> Fnv64 {
+    row.iter().take(n).fold(start, |h, w| h.word((*w).into()))
 }
 
-// What the lower half times 435 carries into the upper half.
-fn carry(low: u32) -> u32 {
-    ((low as u64) * 435 / 4294967296) as u32
+// The first words of a state's rows, m of each history and l of the filter's, and then the rest of its words.
+fn of_state(state: &NsqState, m: usize, l: usize, rest: &[i32]) -> Fnv64 {
+    let xq = words(Fnv64::new(), &state.xq, m);
+    let shp = words(xq, &state.sLTP_shp_Q14, m);
+    let lpc = words(shp, &state.sLPC_Q14, l);
+    let ar2 = words(lpc, &state.sAR2_Q14, 24);
+    words(ar2, rest, rest.len())
 }
 
-// One byte: the prime is 2^40 + 435.
-fn byte(sum: Sum, b: u32) -> Sum {
-    let low = sum.low ^ b;
-    let high = std::num::wrapping_add_u32(bits::mul_u32(sum.high, 435), carry(low));
-    Sum {
-        high: std::num::wrapping_add_u32(high, bits::mul_u32(low, 256)),
-        low: bits::mul_u32(low, 435),
-    }
+// The words that count: of each history four subframes of l samples.
+pub fn counting(state: &NsqState, l: usize) -> Fnv64 {
+    let rest = [
+        state.sLF_AR_shp_Q14,
+        state.sDiff_shp_Q14,
+        state.lagPrev,
+        state.prev_gain_Q16,
+    ];
+    of_state(state, l.saturating_mul(4), 16, &rest)
 }
 
-// One word.
-fn word(sum: Sum, x: i32) -> Sum {
-    let bits = bits::bits32(x);
-    let a = byte(sum, bits & 255);
-    let b = byte(a, bits >> 8 & 255);
-    let c = byte(b, bits >> 16 & 255);
-    byte(c, bits >> 24)
-}
-
-// The first n words of a row.
-pub fn words(sum: Sum, row: &[i32], n: usize) -> Sum {
-    let mut h = sum;
-    for i in 0..n {
-        if i < row.len() {
-            h = word(h, row[i]);
-        }
-    }
-    h
-}
-
-// A digest starts with the first n words of a row of samples.
-pub fn halves(row: &[i16], n: usize) -> Sum {
-    let mut h = Sum {
-        high: 3421674724,
-        low: 2216829733,
-    };
-    for i in 0..n {
-        if i < row.len() {
-            h = word(h, bits::wide16(row[i]));
-        }
-    }
-    h
+// All words of the state, with the seed that the Rust's state holds beside them and passes through.
+pub fn full(state: &NsqState, rand_seed: i32) -> Fnv64 {
+    let rest = [
+        state.sLF_AR_shp_Q14,
+        state.sDiff_shp_Q14,
+        state.lagPrev,
+        state.sLTP_buf_idx,
+        state.sLTP_shp_buf_idx,
+        rand_seed,
+        state.prev_gain_Q16,
+        state.rewhite_flag,
+    ];
+    of_state(state, 640, 96, &rest)
 }

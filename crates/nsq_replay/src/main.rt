@@ -10,20 +10,17 @@
 mod digest;
 mod input;
 mod print;
-mod rows;
 mod state;
 mod stream;
 
 use crate::state::Held;
-use silk::structs::NsqState;
+use std::io;
 
 // All calls of the list, at most 256.
-fn main() {
-    let mut held = Held {
-        state: NsqState::fresh(),
-        rand_seed: 0,
-    };
-    for k in 0usize..256 {
-        held = stream::next(held);
+fn main(rt: HostRuntime) -> io::Result<()> {
+    let mut held = Held::fresh();
+    for _ in 0..256 {
+        held = stream::next(&rt, held)?;
     }
+    Ok(())
 }

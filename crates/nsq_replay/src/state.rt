@@ -1,5 +1,6 @@
 // A state that a call is given: fresh, the one before, or its words in the list.
 use crate::input;
+use fixed::wrap;
 use silk::structs::NsqState;
 
 // A state, and the seed that the Rust's state holds beside it.
@@ -9,55 +10,41 @@ pub struct Held {
     pub rand_seed: i32,
 }
 
-// The 1408 words of a state.
-fn given() -> Held {
-    let mut xq = [0i16; 640];
-    input::fill16(&mut xq, 640);
-    let mut shp = [0i32; 640];
-    input::fill32(&mut shp, 640);
-    let mut lpc = [0i32; 96];
-    input::fill32(&mut lpc, 96);
-    let mut ar2 = [0i32; 24];
-    input::fill32(&mut ar2, 24);
-    let lf = input::number(input::byte());
-    let diff = input::number(input::byte());
-    let lag = input::number(input::byte());
-    let buf = input::number(input::byte());
-    let shp_buf = input::number(input::byte());
-    let seed = input::number(input::byte());
-    let gain = input::number(input::byte());
-    let state = NsqState {
-        xq: xq,
-        sLTP_shp_Q14: shp,
-        sLPC_Q14: lpc,
-        sAR2_Q14: ar2,
-        sLF_AR_shp_Q14: lf,
-        sDiff_shp_Q14: diff,
-        lagPrev: lag,
-        sLTP_buf_idx: buf,
-        sLTP_shp_buf_idx: shp_buf,
-        prev_gain_Q16: gain,
-        rewhite_flag: input::number(input::byte()),
-    };
-    Held {
-        state: state,
-        rand_seed: seed,
+impl Held {
+    pub fn fresh() -> Held {
+        Held {
+            state: NsqState::fresh(),
+            rand_seed: 0,
+        }
     }
-}
 
-// The state that a call starts from: `state fresh`, `state prev` or `state given` with its words.
-pub fn chosen(before: Held) -> Held {
-    input::number(input::byte());
-    let mode = input::byte();
-    input::number(mode);
-    if mode == 103 {
-        return given();
+    // The 1408 words of a state.
+    fn given() -> Held {
+        let mut state = NsqState::fresh();
+        input::fill(&mut state.xq, wrap::low16);
+        input::fill(&mut state.sLTP_shp_Q14, |z| z);
+        input::fill(&mut state.sLPC_Q14, |z| z);
+        input::fill(&mut state.sAR2_Q14, |z| z);
+        state.sLF_AR_shp_Q14 = input::number();
+        state.sDiff_shp_Q14 = input::number();
+        state.lagPrev = input::number();
+        state.sLTP_buf_idx = input::number();
+        state.sLTP_shp_buf_idx = input::number();
+        let rand_seed = input::number();
+        state.prev_gain_Q16 = input::number();
+        state.rewhite_flag = input::number();
+        Held { state, rand_seed }
     }
-    if mode == 112 {
-        return before;
-    }
-    Held {
-        state: NsqState::fresh(),
-        rand_seed: 0,
+
+    // The state that the next call starts from: `state fresh`, `state prev` or `state given` with its words.
+    pub fn chosen(self) -> Held {
+        input::number();
+        let mode = input::byte();
+        input::number_from(mode);
+        match mode {
+            b'g' => Held::given(),
+            b'p' => self,
+            _ => Held::fresh(),
+        }
     }
 }

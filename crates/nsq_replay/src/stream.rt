@@ -2,106 +2,65 @@
 ghost use Rattle.std.specs.Prelude.{◌≤◌};
 
 use crate::state::Held;
-use crate::{input, print, rows, state};
+use crate::{input, print};
+use fixed::wrap;
 use limits::count;
 use nsq::entry;
-use prefixes::prefix;
 use settings_row::named;
 use silk::structs::Settings;
+use std::io;
 
 // The length of the row for the pulses: n times L. Another n than 2 or 4, or an L above 80, is refused before a row is looked at.
 fn frame_length(s: Settings) -> usize
     ensures { result ≤ 320 }
 {
-    let l = rows::kept(count::count(s.subfr_length));
-    if s.nb_subfr == 4 {
-        return rows::kept(4 * l);
-    }
-    rows::kept(2 * l)
+    let l = count::count(s.subfr_length).min(320);
+    let n = if s.nb_subfr == 4 { 4 } else { 2 };
+    (n * l).min(320)
 }
 
-fn settings_of(words: [i32; 320]) -> Settings {
-    named::settings_of(&words)
-}
-
-// The rest of a call, whose rows of 16-bit words were read already: answered and printed. What is handed back is the state after it.
-fn answered(
-    s: Settings,
-    before: Held,
-    out: &mut [i8],
-    x: &[i16],
-    pred: &[i16],
-    long: &[i16],
-    ar: &[i16],
-) -> Held {
-    let harm = rows::words_row();
-    let tilt = rows::words_row();
-    let lf = rows::words_row();
-    let gains = rows::words_row();
-    let lags = rows::words_row();
-    let from = state::chosen(before);
-    let state = from.state;
-    let harm_words = harm.words;
-    let tilt_words = tilt.words;
-    let lf_words = lf.words;
-    let gains_words = gains.words;
-    let lags_words = lags.words;
+// A call: its settings and rows, answered and printed. What is handed back is the state after it.
+fn call(rt: &impl Print, before: Held) -> io::Result<Held> {
+    let mut words = [0; 320];
+    input::row(&mut words, |z| z);
+    let s = named::settings_of(&words);
+    let (mut x, mut pred, mut long, mut ar) = ([0; 320], [0; 320], [0; 320], [0; 320]);
+    let x = input::row(&mut x, wrap::low16);
+    let pred = input::row(&mut pred, wrap::low16);
+    let long = input::row(&mut long, wrap::low16);
+    let ar = input::row(&mut ar, wrap::low16);
+    let (mut harm, mut tilt, mut lf) = ([0; 320], [0; 320], [0; 320]);
+    let harm = input::row(&mut harm, |z| z);
+    let tilt = input::row(&mut tilt, |z| z);
+    let lf = input::row(&mut lf, |z| z);
+    let (mut gains, mut lags) = ([0; 320], [0; 320]);
+    let gains = input::row(&mut gains, |z| z);
+    let lags = input::row(&mut lags, |z| z);
+    let from = before.chosen();
+    let mut space = [0; 320];
+    let out = &mut space[..frame_length(s)];
     let r = entry::silk_NSQ_del_dec(
-        s,
-        state,
-        x,
-        out,
-        pred,
-        long,
-        ar,
-        prefix::first32(&harm_words, harm.count),
-        prefix::first32(&tilt_words, tilt.count),
-        prefix::first32(&lf_words, lf.count),
-        prefix::first32(&gains_words, gains.count),
-        prefix::first32(&lags_words, lags.count),
+        s, from.state, x, out, pred, long, ar, harm, tilt, lf, gains, lags,
     );
-    print::answer(s, r, from.rand_seed, out);
-    let next = r.state;
-    Held {
-        state: next,
+    let (number, seed, state) = match r {
+        Ok(coded) => (0, coded.seed, coded.state),
+        Err(why) => (why.number(), s.Seed, from.state),
+    };
+    print::answer(rt, s, number, seed, &state, from.rand_seed, out)?;
+    Ok(Held {
+        state,
         rand_seed: from.rand_seed,
-    }
-}
-
-// A call: the settings and the rows of 16-bit words stand first.
-fn call(before: Held) -> Held {
-    let row = rows::words_row();
-    let words = row.words;
-    let s = settings_of(words);
-    let x = rows::halves_row();
-    let pred = rows::halves_row();
-    let long = rows::halves_row();
-    let ar = rows::halves_row();
-    let x_words = x.words;
-    let pred_words = pred.words;
-    let long_words = long.words;
-    let ar_words = ar.words;
-    let n = frame_length(s);
-    let mut space = [0i8; 320];
-    answered(
-        s,
-        before,
-        &mut space[0..n],
-        prefix::first16(&x_words, x.count),
-        prefix::first16(&pred_words, pred.count),
-        prefix::first16(&long_words, long.count),
-        prefix::first16(&ar_words, ar.count),
-    )
+    })
 }
 
 // The next call of the list, if there is one, between its lines `call NAME` and `go`.
-pub fn next(held: Held) -> Held {
+pub fn next(rt: &impl Print, held: Held) -> io::Result<Held> {
     let first = input::byte();
     if first == 0 {
-        return held;
+        return Ok(held);
     }
     input::echo(first);
-    let after = call(held);
-    input::number(input::byte());
-    after
+    let after = call(rt, held)?;
+    input::number();
+    Ok(after)
 }

@@ -1,4 +1,3 @@
--- Pages: bytes appended. Digits, Signs: decimal numbers. Unique: one outcome.
 pub mod Pages
 pub mod Digits
 pub mod Signs

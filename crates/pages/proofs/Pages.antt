@@ -10,6 +10,8 @@ use lib.Seq.{take-append_seam, drop-cons, drop-length, take-suc-set, drop-set-lt
 use lib.Dec.{ltb}
 use Rattle.fixed.proofs.Iters.{either-all}
 use Rattle.pages.specs.Page.{Page, page, put, puts}
+use Rattle.pages.specs.declared.page.Page.{Page as Lent}
+use Rattle.pages.specs.Added.{written, Added}
 
 pub put_in : (b n : ℕ) (out : List ℕ) → n < length out → page (n + 1) (set out n b) ≡ put b (page n out)
 unfolding put
@@ -92,3 +94,15 @@ pub whole-page : (text : List ℕ → List ℕ) (s t out bytes : List ℕ) (used
 whole-page text s t out bytes used e h p =
     let q : page used bytes ≡ puts (text t) (page 0 out) = rw e at p in
     record { put = q; text-first = puts-leaves (text t) out bytes used q h; within = puts-used (text t) out bytes used q }
+
+-- ---- a page of the code, text after text
+pub added_none : (p : Lent) → Added p [] p
+unfolding puts
+added_none p = record { lent = refl; puts = refl }
+
+pub added_then : {p q r : Lent} (s t : List ℕ) → Added p s q → Added q t r → Added p (s ++ t) r
+added_then {p = p} s t a b = record { lent = b.lent ∙ a.lent; puts = b.puts ∙ ap (puts t) a.puts ∙ sym (puts-append s t (written p)) }
+
+-- the same text, otherwise written
+pub added_as : {p q : Lent} {s t : List ℕ} → s ≡ t → Added p s q → Added p t q
+added_as {p = p} {q = q} e a = subst (λ (s : List ℕ). Added p s q) e a

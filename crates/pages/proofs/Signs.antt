@@ -1,40 +1,17 @@
 -- A signed number by its sign and its size. Assumes nothing.
-use mathlib.Core.Path.{◌≡◌, refl, ap}
+use mathlib.Core.Path.{◌≡◌, refl}
 use mathlib.Core.Bool.{true, false}
-use Prim.Native.Nat.{◌^◌, ◌<◌}
+use mathlib.Core.List.{◌∷◌}
 use native.Mathlib.Omega.{arith}
-use lib.IntN.{ℤ, pos, negsuc, nat_abs, ◌-ℤ◌}
+use lib.IntN.{ℤ, pos, negsuc, nat_abs}
 use lib.Signed.{lt_z}
-use mir.Syntax.{w32, w64}
-use mir.Val.{SFits, to_z, of_z}
-use Rattle.fixed.proofs.Fit.{read, fit32-64}
 use Rattle.fixed.proofs.Lin.{lt-true, lt-false}
-use Rattle.pages.specs.Page.{Page, put, puts}
 use Rattle.pages.specs.Decimal.{decimal, digits}
 
--- a 32-bit number in 64 bits
-pub wide : (z : ℤ) → SFits w32 z → to_z w64 (of_z w64 (to_z w32 (of_z w32 z))) ≡ z
-wide z f = rw (read f) (read (fit32-64 f))
-
-pub less : (z : ℤ) → lt_z z (pos 0) ≡ true → pos 0 -ℤ z ≡ pos (nat_abs z)
-less (pos n) e = absurd (omega (arith, lt-true (pos n) (pos 0) e))
-less (negsuc n) e = ap pos (omega arith)
-
-pub not-less : (z : ℤ) → lt_z z (pos 0) ≡ false → z ≡ pos (nat_abs z)
-not-less (pos n) e = refl
-not-less (negsuc n) e = absurd (omega (arith, lt-false (negsuc n) (pos 0) e))
-
-pub size_fits : (z : ℤ) → SFits w32 z → nat_abs z < 2 ^ 32
-size_fits (pos n) f = omega (arith, f.sfits)
-size_fits (negsuc n) f = omega (arith, f.sfits)
-
-pub size-signed : (z : ℤ) → SFits w32 z → SFits w64 (pos (nat_abs z))
-size-signed z f = record { sfits = omega (arith, size_fits z f) }
-
-pub decimal-minus : (z : ℤ) (p : Page) → lt_z z (pos 0) ≡ true → puts (digits (nat_abs z)) (put 45 p) ≡ puts (decimal z) p
-unfolding decimal puts
-decimal-minus (pos n) p e = absurd (omega (arith, lt-true (pos n) (pos 0) e))
-decimal-minus (negsuc n) p e = refl
+pub decimal-minus : (z : ℤ) → lt_z z (pos 0) ≡ true → 45 ∷ digits (nat_abs z) ≡ decimal z
+unfolding decimal
+decimal-minus (pos n) e = absurd (omega (arith, lt-true (pos n) (pos 0) e))
+decimal-minus (negsuc n) e = refl
 
 pub decimal-plain : (z : ℤ) → lt_z z (pos 0) ≡ false → digits (nat_abs z) ≡ decimal z
 unfolding decimal

@@ -1,4 +1,5 @@
 // Bytes and numbers, appended to a lent buffer.
 #![tactic(auto)]
 
+pub mod number;
 pub mod page;

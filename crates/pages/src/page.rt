@@ -1,62 +1,79 @@
-// Bytes and numbers appended to a lent buffer. `used` is how many of its bytes are in use. Where it is full, bytes are left out.
-ghost use Rattle.std.specs.Prelude.{◌≡◌, nat_abs};
-ghost use Rattle.pages.specs.Page.{page, put as put_n, puts};
-ghost use Rattle.pages.specs.Decimal.{digits as digits_n, decimal as decimal_z};
+// Bytes and numbers appended to a lent buffer. Where it is full, bytes are left out.
+ghost use Rattle.std.specs.Prelude.{◌≡◌, [], ◌∷◌, take};
+ghost use Rattle.pages.specs.Page.{page};
+ghost use Rattle.pages.specs.Added.{written, Added};
+ghost use Rattle.pages.specs.Decimal.{digits as digits_of, decimal as decimal_of};
 
-pub fn put(out: &mut [u8], used: usize, b: u8) -> usize
-    ensures { page result out.new ≡ put_n b (page used out.old) }
-{
-    if used < out.len() {
-        out[used] = b;
-        used + 1
-    } else {
-        used
+use crate::number::Number;
+
+// A lent buffer, and how many of its bytes are in use.
+#[derive(Drop)]
+pub struct Page<'a> {
+    bytes: &'a mut [u8],
+    used: usize,
+}
+
+impl<'a> Page<'a> {
+    // The buffer, whose first `used` bytes stay.
+    pub fn on(bytes: &'a mut [u8], used: usize) -> Page<'a>
+        ensures lent { result.bytes.ghost_name ≡ bytes.entry.ghost_name }
+        ensures now { written result ≡ page used bytes.old }
+    {
+        Page { bytes, used }
     }
-}
 
-pub fn put_all(out: &mut [u8], used: usize, bytes: &[u8]) -> usize
-    ensures { page result out.new ≡ puts bytes.now (page used out.old) }
-{
-    let mut n = used;
-    for i in 0..bytes.len() {
-        n = put(out, n, bytes[i]);
+    pub fn used(&self) -> usize
+        ensures { result ≡ (written self.now).used }
+    {
+        self.used
     }
-    n
-}
 
-// The decimal digits of n, which are made from the last to the first.
-pub fn digits(out: &mut [u8], used: usize, n: u32) -> usize
-    ensures { page result out.new ≡ puts (digits_n n) (page used out.old) }
-{
-    let mut ds = [0u8; 10];
-    let mut at = 9;
-    let mut left = n;
-    while 10 <= left {
-        ds[at] = 48 + (left % 10) as u8;
-        left = left / 10;
-        at -= 1;
+    // The bytes that are in use.
+    pub fn text(&self) -> &[u8]
+        ensures { result.now ≡ take self.now.used self.now.bytes.now }
+    {
+        if self.bytes.len() < self.used {
+            &self.bytes[..]
+        } else {
+            &self.bytes[..self.used]
+        }
     }
-    ds[at] = 48 + left as u8;
-    put_all(out, used, &ds[at..])
-}
 
-// The number without its sign.
-fn magnitude(z: i32) -> u32
-    ensures { result ≡ nat_abs z }
-{
-    let w = z as i64;
-    if w < 0 { (-w) as u32 } else { w as u32 }
-}
+    pub fn put(&mut self, b: u8)
+        ensures { Added self.old (b ∷ []) self.new }
+    {
+        if self.used < self.bytes.len() {
+            self.bytes[self.used] = b;
+            self.used += 1;
+        }
+    }
 
-// A whole number, with a minus before a negative one.
-pub fn decimal(out: &mut [u8], used: usize, z: i32) -> usize
-    ensures { page result out.new ≡ puts (decimal_z z) (page used out.old) }
-{
-    let m = magnitude(z);
-    if z < 0 {
-        let n = put(out, used, 45);
-        digits(out, n, m)
-    } else {
-        digits(out, used, m)
+    pub fn put_all(&mut self, bytes: &[u8])
+        ensures { Added self.old bytes.now self.new }
+    {
+        for b in bytes {
+            self.put(*b);
+        }
+    }
+
+    // The decimal digits of n, the highest first.
+    pub fn digits(&mut self, n: u64)
+        ensures { Added self.old (digits_of n) self.new }
+    {
+        if 10 <= n {
+            self.digits(n / 10);
+        }
+        self.put(b'0' + (n % 10) as u8);
+    }
+
+    // A whole number, with a minus before a negative one. Written out and no `Display`: the contract states the bytes.
+    pub fn decimal<T: Number>(&mut self, x: T)
+        ensures { Added self.old (decimal_of (T.value x)) self.new }
+    {
+        let z = x.value();
+        if z < 0 {
+            self.put(b'-');
+        }
+        self.digits(z.unsigned_abs());
     }
 }

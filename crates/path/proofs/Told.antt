@@ -162,10 +162,10 @@ pub record SampledBack (x : Sampled) : Type 0 where
 pub sampled : (x : Sampled) → Told sampled-type.the_type sampled-laws.the_laws x → SampledBack x
 sampled x t =
     record {
-      q = back w32 _ t.1.0.1;
-      xq = back w32 _ t.1.1.0.1;
-      pred = back w32 _ t.1.1.1.0.1;
-      shape = back w32 _ t.1.1.1.1.0.1;
+      q = back w32 _ t.0.1;
+      xq = back w32 _ t.1.0.1;
+      pred = back w32 _ t.1.1.0.1;
+      shape = back w32 _ t.1.1.1.0.1;
     }
 
 pub record ChoiceBack (x : Choice) : Type 0 where

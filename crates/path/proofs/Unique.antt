@@ -9,6 +9,8 @@ use Rattle.path.proofs.structs.Path.moved.Reads as moved
 use Rattle.path.proofs.structs.Path.pair.Reads as pair
 use Rattle.path.proofs.structs.Path.taken.Reads as taken
 use Rattle.path.proofs.structs.Path.scaled.Reads as scaled
+use Rattle.path.proofs.structs.States.of.Reads as states-of
+use Rattle.path.proofs.structs.Work.of.Reads as work-of
 use Rattle.path.proofs.scaled.scaled_words.Reads as scaled-words
 
 pub zero-unique : (κs a r s e : _) → zero.Post κs a r e → zero.Post κs a s e → r ≡ s
@@ -40,3 +42,10 @@ scaled-unique κs a r s e f p q = parts (p ∙ sym q)
 
 pub scaled-words-unique : (κs a r s e f : _) → scaled-words.Post κs a r e → scaled-words.Post κs a s f → e.0.now ≡ f.0.now
 scaled-words-unique κs a r s e f p q = p ∙ sym q
+
+-- of rows of whatever types
+pub states-of-unique : (L R c d e f κs a r s x y : _) → states-of.Post L R c d e f κs a r x → states-of.Post L R c d e f κs a s y → r ≡ s
+states-of-unique L R c d e f κs a r s x y p q = p ∙ sym q
+
+pub work-of-unique : (C d e κs a r s x y : _) → work-of.Post C d e κs a r x → work-of.Post C d e κs a s y → r ≡ s
+work-of-unique C d e κs a r s x y p q = p ∙ sym q

@@ -6,7 +6,9 @@ use Rattle.fixed.specs.Row.{word}
 use Rattle.path.specs.declared.structs.Path.{Path}
 use Rattle.path.specs.declared.structs.Candidate.{Candidate}
 use Rattle.path.specs.declared.structs.Halves.{Halves}
-use Rattle.path.specs.declared.structs.Work.{Work}
+use Rattle.path.specs.declared.structs.States.{States as StatesOf}
+use Rattle.path.specs.declared.structs.Work.{Work as WorkOf}
+use Rattle.path.specs.declared.structs.Coefs.{Coefs}
 
 -- what `get_or` gives past the end of a list of paths, and of candidates
 abbrev pub no_path : Path
@@ -35,6 +37,18 @@ pub record Paths : Type 0 where
 -- the three together
 abbrev pub paths : List Path → List (List ℤ) → List (List (List ℤ)) → Paths
 paths o l r = record { owns = o; lpcs = l; rings = r }
+
+-- the code's struct of all paths, of its rows
+abbrev pub States : Type 0
+States = StatesOf (List (List ℤ)) (List (List (List ℤ)))
+
+-- .. and of a subframe in work
+abbrev pub Work : Type 0
+Work = WorkOf (List (List ℤ))
+
+-- the definition's record of all paths
+abbrev pub paths_of : States → Paths
+paths_of s = paths s.owns s.lpcs s.rings
 
 -- which of the five rings: RandState, the seed after the sample
 abbrev pub ring_rand_state : ℕ
@@ -94,12 +108,22 @@ pub record Rows : Type 0 where
 abbrev pub rows : List ℤ → List ℤ → List ℤ → Halves → Rows
 rows a b ar h = record { a = a; b = b; ar = ar; half = h }
 
--- the code's struct with all rows beside it
-abbrev pub running : Work → List (List ℤ) → List (List (List ℤ)) → List ℤ → List ℤ → List ℤ → List ℤ → List ℤ → Running
-running w lpcs rings ltp dgain xq shp out =
+-- the code's struct of them
+abbrev pub rows_of_coefs : Coefs → Rows
+rows_of_coefs v = rows v.a.now v.b.now v.ar.now v.half
+
+-- the code's struct of a subframe in work, with the pulses beside it
+abbrev pub running : Work → List ℤ → Running
+running w out =
     record {
-      core = record { ps = paths w.ps lpcs rings; sLTP_Q15 = ltp; delayedGain_Q10 = dgain; smpl_buf_idx = w.smpl_buf_idx };
-      xq = xq;
-      sLTP_shp_Q14 = shp;
+      core =
+          record {
+            ps = paths_of w.states;
+            sLTP_Q15 = w.sLTP_Q15;
+            delayedGain_Q10 = w.delayedGain_Q10;
+            smpl_buf_idx = w.smpl_buf_idx;
+          };
+      xq = w.xq;
+      sLTP_shp_Q14 = w.sLTP_shp_Q14;
       pulses = out;
     }

@@ -106,7 +106,8 @@ impl Path {
         }
     }
 
-    // What the candidates of a path that has moved on are worked out from.
+    // What the candidates of a path that has moved on are worked out from. Nine parameters: what a sample shares and what one path has, made and used
+    // in one place.
     fn terms(
         self,
         f: Fix,
@@ -134,13 +135,13 @@ impl Path {
             x_Q10: s.x_Q10,
             LTP_pred_Q14: s.LTP_pred_Q14,
             LPC_pred_Q14: shift::shl32(pred, 4),
-            n_AR_Q14: n_AR_Q14,
+            n_AR_Q14,
             n_LF_Q14: n_LF,
             Seed: self.Seed,
         }
     }
 
-    // The two candidates of a path that has moved on.
+    // The two candidates of a path that has moved on, of the same.
     pub fn pair(
         self,
         f: Fix,

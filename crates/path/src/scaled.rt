@@ -11,6 +11,7 @@ pub fn scaled_words(row: &mut [i32], adj: i32, a: usize, m: usize)
     requires { a + m ≤ length row.old }
     ensures { row.new ≡ scaled_words adj a m row.old }
 {
+    // By place: tried over `&mut row[a..a + m]`; that the whole row, put together again, is the promised one stayed open.
     for j in 0..m {
         row[a + j] = product::smulww(adj, row[a + j]);
     }

@@ -34,7 +34,8 @@ pub struct Candidate {
     pub LPC_exc_Q14: i32,
 }
 
-// The scalars of a subframe.
+// The scalars of a subframe. That they fit one another (`Fits`) is asked by contracts and is no invariant: the definitions make this record of any
+// numbers, and theorems speak of those too.
 #[derive(Clone, Copy)]
 pub struct Fix {
     pub subfr_length: usize,
@@ -80,7 +81,7 @@ pub struct Moved {
     pub n_AR_Q14: i32,
 }
 
-// The same of all paths.
+// The same of all paths. Two rows and not four of `Moved`: the definition `moves` is this record.
 #[derive(Clone, Copy)]
 pub struct Moves {
     pub owns: [Path; 4],
@@ -98,7 +99,8 @@ pub struct Terms {
     pub Seed: i32,
 }
 
-// Whether a path is replaced, which, and by which.
+// Whether a path is replaced, which, and by which. Not an `Option`: the definition `swap_of` is this record, and theorems of `full_copy`, `heard` and
+// `belongs` read its flag.
 #[derive(Clone, Copy)]
 pub struct Swap {
     pub yes: bool,
@@ -106,19 +108,51 @@ pub struct Swap {
     pub by: usize,
 }
 
-// What a sample leaves: the paths, and the words of the sample that is a decision delay old.
+// The words of the sample that is a decision delay old, as a sample leaves them.
 #[derive(Clone, Copy)]
 pub struct Sampled {
-    pub ps: [Path; 4],
     pub Q_Q10: i32,
     pub Xq_Q14: i32,
     pub Pred_Q15: i32,
     pub Shape_Q14: i32,
 }
 
-// A subframe in work, but its rows.
-#[derive(Clone, Copy)]
-pub struct Work {
-    pub ps: [Path; 4],
+// All paths with their long rows, `psDelDec`: their short words, their LPC words, their five rings. L and R are always the rows named here;
+// as parameters they let `of` make the struct, since the check doesn't follow a literal with a row of rows in it.
+#[derive(Drop)]
+pub struct States<L: Drop = [[i32; 96]; 4], R: Drop = [[[i32; 40]; 5]; 4]> {
+    pub owns: [Path; 4],
+    pub lpcs: L,
+    pub rings: R,
+}
+
+// A subframe in work, but its pulses, which are the caller's. C is always the row named here, as in `States`.
+#[derive(Drop)]
+pub struct Work<C: Drop = [[i8; 320]; 4]> {
+    pub states: States,
+    // the pulses that each path has chosen in this frame
+    pub chosen: C,
+    pub sLTP_Q15: [i32; 640],
+    pub delayedGain_Q10: [i32; 40],
+    // below 40 by contracts, as for `Fix`
     pub smpl_buf_idx: usize,
+    pub xq: [i16; 640],
+    pub sLTP_shp_Q14: [i32; 640],
+}
+
+// A frame in work: a subframe's rows, the filtered history, and the gain of the subframe before.
+#[derive(Drop)]
+pub struct Frame {
+    pub work: Work,
+    pub sLTP: [i16; 640],
+    pub prev: i32,
+}
+
+// A subframe's coefficients (prediction, long-term prediction, shaping), and the words of which only a half is read.
+#[derive(Clone, Copy)]
+pub struct Coefs<'a> {
+    pub a: &'a [i16],
+    pub b: &'a [i16],
+    pub ar: &'a [i16],
+    pub half: Halves,
 }

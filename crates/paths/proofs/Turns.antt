@@ -11,7 +11,7 @@ use Rattle.path.specs.declared.structs.Fix.{Fix}
 use Rattle.path.specs.declared.structs.Common.{Common}
 use Rattle.path.specs.declared.structs.Sampled.{Sampled}
 use Rattle.fixed.specs.Row.{word}
-use Rattle.path.specs.Data.{Running, running, Rows}
+use Rattle.path.specs.Data.{Paths, Running, Rows}
 use Rattle.steps.specs.Among.{Rule}
 use Rattle.steps.specs.Carried.{candidates_at, fined_at, swap_from, swap_at, chosen, copied_row, pulses_noted, carry_turn}
 use Rattle.steps.specs.Each.{moves, pairs}
@@ -22,26 +22,37 @@ use Rattle.steps.specs.Leaving.{leaves, emit}
 use Rattle.steps.specs.Shared.{predicted, common_from, common}
 use Rattle.places.specs.Places.{down, delayed}
 
--- what is written, row by row
-pub record Written (f : Fix) (i : ℕ) (now : Bool) (g : ℤ) (p r : ℕ) (s : Sampled) (t : Running) (ltp dgain xq shp out : List ℤ) : Type 0 where
-  pub work : ltp ≡ emit now t.core.sLTP_Q15 (f.buf + i - f.«decisionDelay») s.Pred_Q15
-  pub gain : dgain ≡ set t.core.delayedGain_Q10 r (shr32 f.Gain_Q16 6)
-  pub history : xq ≡ emit now t.xq (4 * f.subfr_length + p) (xq_out s.Xq_Q14 g 8)
-  pub shaping : shp ≡ emit now t.sLTP_shp_Q14 (4 * f.subfr_length + p) s.Shape_Q14
-  pub pulse : out ≡ emit now t.pulses p (pulse_of s.Q_Q10)
+-- what is written, row by row: u is the frame in work after it, q are the paths that the sample leaves
+pub record Written (f : Fix) (i : ℕ) (now : Bool) (g : ℤ) (p r : ℕ) (s : Sampled) (q : Paths) (t u : Running) : Type 0 where
+  pub left : u.core.ps ≡ q
+  pub work : u.core.sLTP_Q15 ≡ emit now t.core.sLTP_Q15 (f.buf + i - f.«decisionDelay») s.Pred_Q15
+  pub gain : u.core.delayedGain_Q10 ≡ set t.core.delayedGain_Q10 r (shr32 f.Gain_Q16 6)
+  pub place : u.core.smpl_buf_idx ≡ r
+  pub history : u.xq ≡ emit now t.xq (4 * f.subfr_length + p) (xq_out s.Xq_Q14 g 8)
+  pub shaping : u.sLTP_shp_Q14 ≡ emit now t.sLTP_shp_Q14 (4 * f.subfr_length + p) s.Shape_Q14
+  pub pulse : u.pulses ≡ emit now t.pulses p (pulse_of s.Q_Q10)
+
+-- a subframe in work, of its words
+abbrev pub made : Paths → List ℤ → List ℤ → ℕ → List ℤ → List ℤ → List ℤ → Running
+made ps ltp dgain r xq shp out =
+    record { core = record { ps = ps; sLTP_Q15 = ltp; delayedGain_Q10 = dgain; smpl_buf_idx = r }; xq = xq; sLTP_shp_Q14 = shp; pulses = out }
 
 -- is `put_at`
-pub written : (f : Fix) (i : ℕ) (now : Bool) (g : ℤ) (p r : ℕ) (s : Sampled) (t : Running) (lpcs : List (List ℤ)) (rings : List (List (List ℤ))) (ltp dgain xq shp out : List ℤ)
-    → Written f i now g p r s t ltp dgain xq shp out
-    → running (record { ps = s.ps; smpl_buf_idx = r }) lpcs rings ltp dgain xq shp out ≡ put_at f i now g p r (settled_of s lpcs rings) t
+pub written : (f : Fix) (i : ℕ) (now : Bool) (g : ℤ) (p r : ℕ) (s : Sampled) (q : Paths) (t u : Running)
+    → Written f i now g p r s q t u
+    → u ≡ put_at f i now g p r (settled_of s q) t
 unfolding put_at
-written f i now g p r s t lpcs rings ltp dgain xq shp out w =
+written f i now g p r s q t u w =
     let a = w.work in
     let b = w.gain in
     let c = w.history in
     let d = w.shaping in
     let e = w.pulse in
-    cc
+    let h = w.left in
+    let j = w.place in
+    let all : made u.core.ps u.core.sLTP_Q15 u.core.delayedGain_Q10 u.core.smpl_buf_idx u.xq u.sLTP_shp_Q14 u.pulses
+    ≡ put_at f i now g p r (settled_of s q) t = cc in
+    all
 
 -- sample i with what all paths share, s, the ring going from place r0 to r
 abbrev pub turn_with : Rule → Fix → Rows → ℕ → Running → ℕ → Common → Running

@@ -5,7 +5,7 @@ ghost use Rattle.steps.specs.Shared.{predicted as predicted_z, harmonic as harmo
 
 use gain_terms::gains;
 use harmonic::terms as harmonic_terms;
-use path::structs::{Common, Fix};
+use path::structs::{Coefs, Common, Fix, Work};
 use shaping::long_prediction;
 
 // The long-term prediction, in a voiced frame.
@@ -14,9 +14,10 @@ fn predicted(f: Fix, b: &[i16], ltp: &[i32; 640], i: usize) -> i32
     ensures { result ≡ predicted_z f b.now ltp.now i }
 {
     if f.voiced {
-        return long_prediction::ltp_prediction(ltp, f.buf + i + 2 - f.lag, b);
+        long_prediction::ltp_prediction(ltp, f.buf + i + 2 - f.lag, b)
+    } else {
+        0
     }
-    0
 }
 
 // The harmonic noise term, where there is a lag.
@@ -25,31 +26,24 @@ fn harmonic(f: Fix, packed: i32, shp: &[i32; 640], i: usize, ltp_pred: i32) -> i
     ensures { result ≡ harmonic_z f packed shp.now i ltp_pred }
 {
     if 0 < f.lag {
-        return harmonic_terms::n_LTP(
+        harmonic_terms::n_LTP(
             shp,
             4 * f.subfr_length + f.base + i + 1 - f.lag,
             packed,
             ltp_pred,
-        );
+        )
+    } else {
+        0
     }
-    0
 }
 
 // What all paths share at sample i.
-pub fn common(
-    f: Fix,
-    packed: i32,
-    b: &[i16],
-    ltp: &[i32; 640],
-    shp: &[i32; 640],
-    x: &[i16],
-    i: usize,
-) -> Common
-    requires { Fits f × ((i < f.subfr_length) × ((5 ≤ length b.now) × (f.base + f.subfr_length ≤ length x.now))) }
-    ensures { result ≡ common_from f packed shp.now x.now i (predicted_z f b.now ltp.now i) }
+pub fn common(w: &Work, x: &[i16], v: Coefs<'_>, f: Fix, i: usize) -> Common
+    requires { Fits f × ((i < f.subfr_length) × ((5 ≤ length v.b.now) × (f.base + f.subfr_length ≤ length x.now))) }
+    ensures { result ≡ common_from f v.entry.half.HarmShapeFIRPacked_Q14 w.now.sLTP_shp_Q14 x.now i (predicted_z f v.entry.b.now w.now.sLTP_Q15 i) }
 {
-    let pred = predicted(f, b, ltp, i);
-    let noise = harmonic(f, packed, shp, i, pred);
+    let pred = predicted(f, v.b, &w.sLTP_Q15, i);
+    let noise = harmonic(f, v.half.HarmShapeFIRPacked_Q14, &w.sLTP_shp_Q14, i, pred);
     let input = gains::x_sc_Q10(x[f.base + i], f.inv_gain_Q26);
     Common {
         x_Q10: input,

@@ -1,11 +1,13 @@
 // What every path does at a sample.
 ghost use Rattle.std.specs.Prelude.{◌≡◌, ◌+◌, ◌<◌, ◌≤◌, length};
-ghost use Rattle.path.specs.Data.{paths};
+ghost use Rattle.path.specs.Data.{paths_of};
 ghost use Rattle.steps.specs.Carried.{pulses_noted};
 ghost use Rattle.steps.specs.Each.{moves as moves_z, pairs as pairs_z, taken_all};
 
 use noise::output;
-use path::structs::{Candidate, Common, Fix, Halves, Moves, Path, Q_Q10};
+use path::structs::{Candidate, Common, Fix, Halves, Moves, Path, Q_Q10, States};
+
+// Loops here go by k: two or three rows go together, of which the first n count, and the definitions go by k too.
 
 // All paths moved on, each with its filter's output.
 pub fn moves(ps: [Path; 4], f: Fix, h: Halves, ar: &[i16]) -> Moves
@@ -28,19 +30,18 @@ pub fn moves(ps: [Path; 4], f: Fix, h: Halves, ar: &[i16]) -> Moves
     m
 }
 
-// The candidates of all paths that have moved on.
+// The candidates of all paths that have moved on, m; their rows are those of `ps`.
 pub fn pairs(
     m: Moves,
+    ps: &States,
     f: Fix,
     a: &[i16],
     s: Common,
     i: usize,
     r0: usize,
-    lpc: &[[i32; 96]; 4],
-    ring: &[[[i32; 40]; 5]; 4],
 ) -> [[Candidate; 2]; 4]
     requires { (f.«nStates» ≤ 4) × ((i < 80) × ((r0 < 40) × ((f.«predictLPCOrder» ≤ 16) × (16 ≤ length a.now)))) }
-    ensures { result ≡ pairs_z f a.now s i r0 m lpc.now ring.now }
+    ensures { result ≡ pairs_z f a.now s i r0 m ps.now.lpcs ps.now.rings }
 {
     let n = f.nStates;
     let z = Candidate::zero();
@@ -48,39 +49,31 @@ pub fn pairs(
     for k in 0..n {
         let p = m.owns[k];
         let n_AR = m.n_AR_Q14[k];
-        c[k] = p.pair(f, a, s, i, r0, n_AR, &lpc[k], &ring[k]);
+        c[k] = p.pair(f, a, s, i, r0, n_AR, &ps.lpcs[k], &ps.rings[k]);
     }
     c
 }
 
 // Each of the n paths takes its first candidate.
-pub fn taken_all(
-    mut ps: [Path; 4],
-    lpc: &mut [[i32; 96]; 4],
-    ring: &mut [[[i32; 40]; 5]; 4],
-    c: [[Candidate; 2]; 4],
-    n: usize,
-    i: usize,
-    r: usize,
-) -> [Path; 4]
+pub fn taken_all(ps: &mut States, c: [[Candidate; 2]; 4], n: usize, i: usize, r: usize)
     requires { (n ≤ 4) × ((16 + i < 96) × (r < 40)) }
-    ensures { paths result lpc.new ring.new ≡ taken_all c n i r (paths ps lpc.old ring.old) }
+    ensures { paths_of ps.new ≡ taken_all c n i r (paths_of ps.old) }
 {
     for k in 0..n {
-        let p = ps[k];
+        let p = ps.owns[k];
         let first = c[k][0];
-        ps[k] = p.taken(&mut lpc[k], &mut ring[k], first, i, r);
+        ps.owns[k] = p.taken(&mut ps.lpcs[k], &mut ps.rings[k], first, i, r);
     }
-    ps
 }
 
 // Each of the n paths notes, at place g of the frame, the pulse of the level that its ring has at place r.
-pub fn noted(own: &mut [[i8; 320]; 4], ring: &[[[i32; 40]; 5]; 4], n: usize, r: usize, g: usize)
+pub fn noted(chosen: &mut [[i8; 320]; 4], rings: &[[[i32; 40]; 5]; 4], n: usize, r: usize, g: usize)
     requires { (n ≤ 4) × ((r < 40) × (g < 320)) }
-    ensures { own.new ≡ pulses_noted n g r ring.now own.old }
+    ensures { chosen.new ≡ pulses_noted n g r rings.now chosen.old }
 {
+    // By place: over `chosen.iter_mut().zip(rings).take(n)` the loop has no name for what the rows hold so far, so that the equation for them stays open.
     for k in 0..n {
-        let level = ring[k][Q_Q10][r];
-        own[k][g] = output::pulse_of(level);
+        let level = rings[k][Q_Q10][r];
+        chosen[k][g] = output::pulse_of(level);
     }
 }

@@ -2,25 +2,23 @@
 ghost use Rattle.std.specs.Prelude.{◌≡◌, ◌<◌, ◌≤◌};
 ghost use Rattle.steps.specs.Among.{full_copy};
 ghost use Rattle.steps.specs.Carried.{chosen, carried_in};
-ghost use Rattle.steps.specs.Lent.{running_at, rows_at, Supplied};
+ghost use Rattle.path.specs.Data.{running, rows_of_coefs};
+ghost use Rattle.steps.specs.Lent.{Supplied};
 ghost use Rattle.steps.specs.Subframe.{backed, backs as backs_z, subframe as subframe_z};
 ghost use Rattle.places.specs.Places.{Fits};
 
 use crate::turn;
-use path::structs::{Fix, Halves, Work};
+use path::structs::{Coefs, Fix, Work};
 
 // The last 16 LPC words of a path, behind l samples, move to the front.
 fn moved_back(w: &mut [i32; 96], l: usize)
     requires { l ≤ 80 }
     ensures { w.new ≡ backed l w.old }
 {
-    for j in 0..16 {
-        let v = w[l + j];
-        w[j] = v;
-    }
+    w.copy_within(l..l + 16, 0);
 }
 
-// The same of n paths.
+// The same of n paths, by k as in the definition: the first n of four count.
 fn backs(lpc: &mut [[i32; 96]; 4], l: usize, n: usize)
     requires { (l ≤ 80) × (n ≤ 4) }
     ensures { lpc.new ≡ backs_z l n lpc.old }
@@ -32,38 +30,20 @@ fn backs(lpc: &mut [[i32; 96]; 4], l: usize, n: usize)
 
 // The samples of a subframe, and then the LPC words back to the front.
 pub fn silk_noise_shape_quantizer_del_dec(
-    w: Work,
-    lpc: &mut [[i32; 96]; 4],
-    ring: &mut [[[i32; 40]; 5]; 4],
-    own: &mut [[i8; 320]; 4],
-    ltp: &mut [i32; 640],
-    dgain: &mut [i32; 40],
-    xq: &mut [i16; 640],
-    shp: &mut [i32; 640],
+    w: &mut Work,
     pulses: &mut [i8],
     x: &[i16],
-    a: &[i16],
-    b: &[i16],
-    ar: &[i16],
+    v: Coefs<'_>,
     f: Fix,
-    h: Halves,
-) -> Work
-    requires { (Fits f × (w.smpl_buf_idx < 40)) × Supplied f a.now b.now ar.now x.now pulses.old }
-    ensures words { (running_at result lpc.new ring.new ltp.new dgain.new xq.new shp.new pulses.new
-        ≡ subframe_z full_copy f (rows_at a.now b.now ar.now h) x.now
-        (running_at w lpc.old ring.old ltp.old dgain.old xq.old shp.old pulses.old))
-        × (result.smpl_buf_idx < 40) }
-    ensures chosen { own.new
-        ≡ carried_in chosen full_copy f (rows_at a.now b.now ar.now h) x.now
-        (running_at w lpc.old ring.old ltp.old dgain.old xq.old shp.old pulses.old) f.subfr_length own.old }
+)
+    requires { (Fits f × (w.old.smpl_buf_idx < 40)) × Supplied f v x.now pulses.old }
+    ensures words { (running w.new pulses.new ≡ subframe_z full_copy f (rows_of_coefs v.entry) x.now (running w.old pulses.old))
+        × (w.new.smpl_buf_idx < 40) }
+    ensures chosen { w.new.chosen
+        ≡ carried_in chosen full_copy f (rows_of_coefs v.entry) x.now (running w.old pulses.old) f.subfr_length w.old.chosen }
 {
-    let mut v = w;
-    let l = f.subfr_length;
-    for i in 0..l {
-        v = turn::turn(
-            v, lpc, ring, own, ltp, dgain, xq, shp, pulses, x, a, b, ar, f, h, i,
-        );
+    for i in 0..f.subfr_length {
+        turn::turn(w, pulses, x, v, f, i);
     }
-    backs(lpc, l, f.nStates);
-    v
+    backs(&mut w.states.lpcs, f.subfr_length, f.nStates);
 }

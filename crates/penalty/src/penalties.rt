@@ -28,6 +28,7 @@ pub fn penalised(
     ensures { result ≡ penalised_z c ring.now n w last }
 {
     let mark = ring[w][RAND_STATE][last];
+    // By place: over `c.iter_mut().zip(ring).take(n)` the loop has no name for what c holds so far, so that the equation for its result stays open.
     for k in 0..n {
         let state = ring[k][RAND_STATE][last];
         let row = c[k];

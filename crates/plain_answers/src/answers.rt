@@ -1,31 +1,25 @@
 // Answers as the numbers of docs/RULES.md, "Which number comes back".
-ghost use Rattle.std.specs.Prelude.{◌≡◌};
+ghost use Rattle.std.specs.Prelude.{◌≡◌, Err};
 ghost use Rattle.refusal_rules.specs.Code.{code_of};
 ghost use Rattle.plain_answers.specs.Stateless.{stateless};
 
-use refusal_rules::answer::{Answer, Sizes};
+use refusal_rules::answer::{Answer, Refusal, Sizes};
 use refusals::check;
 use silk::structs::Settings;
 
-// The number of an answer.
+// The number of an answer: C is handed it.
 pub fn number(a: Answer) -> u32
     ensures { result ≡ code_of a }
 {
     match a {
-        Answer::Accepted => 0,
-        Answer::Lengths => 1,
-        Answer::Orders => 2,
-        Answer::Paths => 3,
-        Answer::Kinds => 4,
-        Answer::Rows => 5,
-        Answer::Gains => 6,
-        Answer::Lags => 7,
+        Ok(()) => 0,
+        Err(why) => why.number(),
     }
 }
 
-// The number of a call whose state has a row of another length: that of a call with no words in its rows.
-pub fn stateless_number(s: Settings, gains: &[i32], lags: &[i32]) -> u32
-    ensures { result ≡ code_of (stateless s) }
+// Why a call is refused whose state has a row of another length: as one with no words in its rows.
+pub fn stateless(s: Settings, gains: &[i32], lags: &[i32]) -> Refusal
+    ensures { Err result ≡ stateless s }
 {
     let z = Sizes {
         samples: 0,
@@ -37,5 +31,12 @@ pub fn stateless_number(s: Settings, gains: &[i32], lags: &[i32]) -> u32
         lf: 0,
         pulses: 0,
     };
-    number(check::check(s, z, 0, 1, gains, lags))
+    check::check(s, z, 0, 1, gains, lags).unwrap_err()
+}
+
+// Its number, for C.
+pub fn stateless_number(s: Settings, gains: &[i32], lags: &[i32]) -> u32
+    ensures { result ≡ code_of (stateless s) }
+{
+    stateless(s, gains, lags).number()
 }

@@ -1,9 +1,9 @@
 -- What comes of asking for a fresh state, for two rows of any length: a number, and each row as it is left. Assumes nothing.
-use Rattle.std.specs.Prelude.{ℕ, Bool, ◌&&◌, List, length, ℤ, eqb}
+use Rattle.std.specs.Prelude.{ℕ, Bool, ◌&&◌, List, length, ℤ, eqb, Err}
 use Rattle.fixed.specs.Iter.{either}
 use Rattle.silk.specs.State.{fresh_state}
-use Rattle.refusal_rules.specs.declared.answer.Answer.TheVariants.{Accepted, Rows}
-use Rattle.refusal_rules.specs.Code.{code_of}
+use Rattle.refusal_rules.specs.declared.answer.Refusal.TheVariants.{Rows}
+use Rattle.refusal_rules.specs.Code.{Accepted, code_of}
 use Rattle.plain_rows.specs.Layout.{words_of}
 
 -- what `nsq_fresh` leaves: its number and the two rows
@@ -25,4 +25,4 @@ unfoldable pub freshened : List ℤ → List ℤ → Freshly
 freshened samples words =
     either (state_fits samples words)
     (freshly_of (code_of Accepted) fresh_state.xq (words_of fresh_state))
-    (freshly_of (code_of Rows) samples words)
+    (freshly_of (code_of (Err Rows)) samples words)

@@ -1,29 +1,29 @@
 // What comes of a call, laid into plain rows.
 ghost use Rattle.std.specs.Prelude.{◌≡◌, List, length, ℤ};
-ghost use Rattle.steps.specs.Entry.{outcome_of};
-ghost use Rattle.plain_laid.specs.Laid.{left_of, laid};
+ghost use Rattle.refusal_rules.specs.Code.{code_of};
+ghost use Rattle.silk.specs.declared.structs.NsqState.{NsqState};
+ghost use Rattle.steps.specs.Entry.{handed, reported};
+ghost use Rattle.plain_laid.specs.Laid.{answer_of, report_of, left_of, laid};
 
-use plain_answers::answers;
 use plain_rows::layout;
-use refusal_rules::answer::Answer;
-use steps::structs::Answered;
+use refusal_rules::answer::Refusal;
+use steps::structs::Coded;
 
-// What an accepted call hands back stands in the rows; a refused one leaves them. Returns the answer's number.
-pub fn lay(a: Answered, settings: &mut [i32], samples: &mut [i16], words: &mut [i32]) -> u32
+// What an accepted call hands back stands in the rows, and its report is handed on; a refused one leaves them.
+pub fn lay(
+    a: Result<Coded, Refusal>,
+    settings: &mut [i32],
+    samples: &mut [i16],
+    words: &mut [i32],
+) -> Result<i32, Refusal>
     requires { (length settings.old ≡ 12) × ((length samples.old ≡ 640) × (length words.old ≡ 767)) }
-    ensures { (out : List ℤ) → left_of result settings.new samples.new words.new out ≡ laid settings.old samples.old words.old (outcome_of a.answer a.seed a.state out) }
+    ensures rows { (seed : ℤ) (state : NsqState) (out : List ℤ)
+        → left_of (code_of (answer_of result)) settings.new samples.new words.new out ≡ laid settings.old samples.old words.old (handed seed state a out) }
+    ensures report { report_of result ≡ reported a }
 {
-    let answer = a.answer;
-    match answer {
-        Answer::Accepted => {
-            let seed = a.seed;
-            let state = a.state;
-            settings[9] = seed;
-            let xq = state.xq;
-            layout::lay_samples(xq, samples);
-            layout::lay_words(state, words);
-            0
-        }
-        _ => answers::number(answer),
-    }
+    let coded = a?;
+    settings[9] = coded.seed;
+    layout::lay_samples(coded.state.xq, samples);
+    layout::lay_words(coded.state, words);
+    Ok(coded.report)
 }

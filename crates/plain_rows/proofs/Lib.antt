@@ -1,4 +1,3 @@
--- Copied: a row copied. Laid: a state's words in a row. Unique: one outcome.
-pub mod Copied
+-- Laid: a state's words in a row. Unique: one outcome.
 pub mod Laid
 pub mod Unique

@@ -2,47 +2,14 @@
 ghost use Rattle.std.specs.Prelude.{◌≡◌, length};
 ghost use Rattle.plain_rows.specs.Layout.{state_of, scalars_of, words_of};
 
-use crate::copies;
 use silk::structs::NsqState;
 
-// The 640 samples of history.
-fn history(samples: &[i16]) -> [i16; 640]
-    requires { length samples.now ≡ 640 }
-    ensures { result ≡ samples.now }
+// A part of a row, as an array of its length.
+fn part<T: Copy, const N: usize>(row: &[T]) -> [T; N]
+    requires { length row.now ≡ N }
+    ensures { result ≡ row.now }
 {
-    let mut row = [0; 640];
-    copies::put16(&mut row, samples);
-    row
-}
-
-// 640 words.
-fn words640(words: &[i32]) -> [i32; 640]
-    requires { length words.now ≡ 640 }
-    ensures { result ≡ words.now }
-{
-    let mut row = [0; 640];
-    copies::put32(&mut row, words);
-    row
-}
-
-// 96 words.
-fn words96(words: &[i32]) -> [i32; 96]
-    requires { length words.now ≡ 96 }
-    ensures { result ≡ words.now }
-{
-    let mut row = [0; 96];
-    copies::put32(&mut row, words);
-    row
-}
-
-// 24 words.
-fn words24(words: &[i32]) -> [i32; 24]
-    requires { length words.now ≡ 24 }
-    ensures { result ≡ words.now }
-{
-    let mut row = [0; 24];
-    copies::put32(&mut row, words);
-    row
+    <[T; N]>::try_from(row).unwrap()
 }
 
 // The state that the two rows hold.
@@ -50,15 +17,11 @@ pub fn state_of(samples: &[i16], words: &[i32]) -> NsqState
     requires { (length samples.now ≡ 640) × (length words.now ≡ 767) }
     ensures { result ≡ state_of samples.now words.now }
 {
-    let xq = history(samples);
-    let shp = words640(&words[0..640]);
-    let lpc = words96(&words[640..736]);
-    let ar2 = words24(&words[736..760]);
     NsqState {
-        xq: xq,
-        sLTP_shp_Q14: shp,
-        sLPC_Q14: lpc,
-        sAR2_Q14: ar2,
+        xq: part(samples),
+        sLTP_shp_Q14: part(&words[0..640]),
+        sLPC_Q14: part(&words[640..736]),
+        sAR2_Q14: part(&words[736..760]),
         sLF_AR_shp_Q14: words[760],
         sDiff_shp_Q14: words[761],
         lagPrev: words[762],
@@ -84,51 +47,15 @@ fn scalars_of(state: NsqState) -> [i32; 7]
     ]
 }
 
-// 640 words, laid into a part.
-fn lay640(part: &mut [i32], from: [i32; 640])
-    requires { length part.old ≡ 640 }
-    ensures { part.new ≡ from }
-{
-    copies::put32(part, &from);
-}
-
-// 96 words.
-fn lay96(part: &mut [i32], from: [i32; 96])
-    requires { length part.old ≡ 96 }
-    ensures { part.new ≡ from }
-{
-    copies::put32(part, &from);
-}
-
-// 24 words.
-fn lay24(part: &mut [i32], from: [i32; 24])
-    requires { length part.old ≡ 24 }
-    ensures { part.new ≡ from }
-{
-    copies::put32(part, &from);
-}
-
-// 7 words.
-fn lay7(part: &mut [i32], from: [i32; 7])
-    requires { length part.old ≡ 7 }
-    ensures { part.new ≡ from }
-{
-    copies::put32(part, &from);
-}
-
 // The words of a state, laid into a row of 767.
 pub fn lay_words(state: NsqState, words: &mut [i32])
     requires { length words.old ≡ 767 }
     ensures { words.new ≡ words_of state }
 {
-    let shp = state.sLTP_shp_Q14;
-    let lpc = state.sLPC_Q14;
-    let ar2 = state.sAR2_Q14;
-    let scalars = scalars_of(state);
-    lay640(&mut words[0..640], shp);
-    lay96(&mut words[640..736], lpc);
-    lay24(&mut words[736..760], ar2);
-    lay7(&mut words[760..767], scalars);
+    words[0..640].copy_from_slice(&state.sLTP_shp_Q14);
+    words[640..736].copy_from_slice(&state.sLPC_Q14);
+    words[736..760].copy_from_slice(&state.sAR2_Q14);
+    words[760..767].copy_from_slice(&scalars_of(state));
 }
 
 // A state's samples, laid into a row of 640.
@@ -136,5 +63,5 @@ pub fn lay_samples(xq: [i16; 640], samples: &mut [i16])
     requires { length samples.old ≡ 640 }
     ensures { samples.new ≡ xq }
 {
-    copies::put16(samples, &xq);
+    samples.copy_from_slice(&xq);
 }

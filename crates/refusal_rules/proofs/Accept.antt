@@ -14,9 +14,8 @@ use borrow.Author.Tests.{eqb-true, eqb-false, not-false, ltb-false}
 use Rattle.fixed.specs.Iter.{either}
 use Rattle.fixed.proofs.Lin.{lt-false, le-of-lin, neg-lin}
 use Rattle.silk.specs.declared.structs.Settings.{Settings}
-use Rattle.refusal_rules.specs.declared.answer.Answer.TheVariants.{Accepted}
 use Rattle.refusal_rules.specs.declared.answer.Sizes.{Sizes}
-use Rattle.refusal_rules.specs.Code.{code_of}
+use Rattle.refusal_rules.specs.Code.{Accepted, code_of}
 use Rattle.limits.specs.Count.{nat_z, same_z}
 use Rattle.refusal_rules.specs.Good.{Among, GoodLength, GoodCount, GoodOrder, GoodShaping, GoodLag, QuietLag, GoodSettings, GoodRows, GoodGains, GoodLags, Good}
 use Rattle.limits.specs.Tests.{outside, length_allowed, count_allowed, order_for, odd_z, some, lengths_refused, orders_refused, paths_refused, kinds_refused, gain_refused, some_gain, gains_refused, lag_refused, quiet_lag_refused, some_lag, last_of, lags_refused}

@@ -6,17 +6,18 @@ use mathlib.Core.Logic.{◌↔◌}
 use mathlib.Core.Bool.{Bool, true, false}
 use mathlib.Core.List.{List}
 use lib.IntN.{ℤ}
+use Rattle.std.specs.Prelude.{Err}
 use Rattle.fixed.specs.Iter.{either}
 use Rattle.fixed.proofs.Lowest.{lowest, exactly-lowest, exactly-none}
 use Rattle.silk.specs.declared.structs.Settings.{Settings}
 use Rattle.refusal_rules.specs.declared.answer.Sizes.{Sizes}
-use Rattle.refusal_rules.specs.declared.answer.Answer.TheVariants.{Accepted, Lengths, Orders, Paths, Kinds, Rows, Gains, Lags}
-use Rattle.refusal_rules.specs.Code.{code_of}
+use Rattle.refusal_rules.specs.declared.answer.Refusal.TheVariants.{Lengths, Orders, Paths, Kinds, Rows, Gains, Lags}
+use Rattle.refusal_rules.specs.Code.{Accepted, code_of}
 use Rattle.refusal_rules.specs.Table.{applies, answer_of}
 
 -- the number of the first answer whose test holds
 number : (a b c d e f g : Bool)
-    → code_of (either a Lengths (either b Orders (either c Paths (either d Kinds (either e Rows (either f Gains (either g Lags Accepted)))))))
+    → code_of (either a (Err Lengths) (either b (Err Orders) (either c (Err Paths) (either d (Err Kinds) (either e (Err Rows) (either f (Err Gains) (either g (Err Lags) Accepted)))))))
     ≡ either a 1 (either b 2 (either c 3 (either d 4 (either e 5 (either f 6 (either g 7 0))))))
 number true b c d e f g = refl
 number false true c d e f g = refl

@@ -1,16 +1,28 @@
--- The number of each answer: docs/RULES.md, "Which number comes back". A contract that speaks of an answer gives its number by this.
--- Assumes nothing.
-use Rattle.std.specs.Prelude.{ℕ}
-use Rattle.refusal_rules.specs.declared.answer.Answer.{Answer}
-use Rattle.refusal_rules.specs.declared.answer.Answer.TheVariants.{Accepted, Lengths, Orders, Paths, Kinds, Rows, Gains, Lags}
+-- A call's answer, and the number of each: docs/RULES.md, "Which number comes back". A contract that speaks of an answer gives its number by
+-- `code_of`. Assumes nothing.
+use Rattle.std.specs.Prelude.{ℕ, Result, Ok, Err}
+use Rattle.refusal_rules.specs.declared.answer.Refusal.{Refusal}
+use Rattle.refusal_rules.specs.declared.answer.Refusal.TheVariants.{Lengths, Orders, Paths, Kinds, Rows, Gains, Lags}
+
+-- accepted, or why not
+abbrev pub Answer : Type 0
+Answer = Result (Unit {0}) Refusal
+
+-- accepted
+abbrev pub Accepted : Answer
+Accepted = Ok tt
+
+-- the number of a refusal
+abbrev pub refusal_code : Refusal → ℕ
+refusal_code Lengths = 1
+refusal_code Orders = 2
+refusal_code Paths = 3
+refusal_code Kinds = 4
+refusal_code Rows = 5
+refusal_code Gains = 6
+refusal_code Lags = 7
 
 -- the number of an answer
 abbrev pub code_of : Answer → ℕ
-code_of Accepted = 0
-code_of Lengths = 1
-code_of Orders = 2
-code_of Paths = 3
-code_of Kinds = 4
-code_of Rows = 5
-code_of Gains = 6
-code_of Lags = 7
+code_of (Ok u) = 0
+code_of (Err r) = refusal_code r

@@ -2,14 +2,14 @@
 -- back", row by row. Every number is a whole number of any size and sign; a row's words are a list. What that text calls
 -- L and n are `l` and `n` here, N is n times L.
 -- Assumes nothing.
-use Rattle.std.specs.Prelude.{ℕ, ◌*◌, Bool, false, not, ◌||◌, List, [], ◌∷◌, get_or, length, ℤ, eqb}
+use Rattle.std.specs.Prelude.{ℕ, ◌*◌, Bool, false, not, ◌||◌, List, [], ◌∷◌, get_or, length, ℤ, eqb, Err}
 use Rattle.fixed.specs.Iter.{either}
 use Rattle.silk.specs.declared.structs.Settings.{Settings}
 use Rattle.limits.specs.Count.{nat_z}
 use Rattle.limits.specs.Tests.{lengths_refused, orders_refused, paths_refused, kinds_refused, gains_refused, lags_refused}
-use Rattle.refusal_rules.specs.declared.answer.Answer.{Answer}
-use Rattle.refusal_rules.specs.declared.answer.Answer.TheVariants.{Accepted, Lengths, Orders, Paths, Kinds, Rows, Gains, Lags}
+use Rattle.refusal_rules.specs.declared.answer.Refusal.TheVariants.{Lengths, Orders, Paths, Kinds, Rows, Gains, Lags}
 use Rattle.refusal_rules.specs.declared.answer.Sizes.{Sizes}
+use Rattle.refusal_rules.specs.Code.{Answer, Accepted}
 
 -- two lengths differ
 abbrev pub another : ℕ → ℕ → Bool
@@ -52,10 +52,10 @@ applies s z lagPrev prev_gain_Q16 gains lags k = get_or (table s z lagPrev prev_
 unfoldable pub answer_of : Settings → Sizes → ℤ → ℤ → List ℤ → List ℤ → Answer
 answer_of s z lagPrev prev_gain_Q16 gains lags =
     let is = applies s z lagPrev prev_gain_Q16 gains lags in
-    either (is 1) Lengths
-    (either (is 2) Orders
-    (either (is 3) Paths
-    (either (is 4) Kinds
-    (either (is 5) Rows
-    (either (is 6) Gains
-    (either (is 7) Lags Accepted))))))
+    either (is 1) (Err Lengths)
+    (either (is 2) (Err Orders)
+    (either (is 3) (Err Paths)
+    (either (is 4) (Err Kinds)
+    (either (is 5) (Err Rows)
+    (either (is 6) (Err Gains)
+    (either (is 7) (Err Lags) Accepted))))))

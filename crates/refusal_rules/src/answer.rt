@@ -1,9 +1,10 @@
 // What a call is answered, and the lengths of the rows that it lends.
+ghost use Rattle.std.specs.Prelude.{◌≡◌};
+ghost use Rattle.refusal_rules.specs.Code.{refusal_code};
 
-// Accepted, or why not, in the order of the numbers of docs/RULES.md: `code_of` gives them.
-#[derive(Clone, Copy)]
-pub enum Answer {
-    Accepted,
+// Why a call is refused, in the order of the numbers of docs/RULES.md.
+#[derive(Clone, Copy, PartialEq, Eq, Debug)]
+pub enum Refusal {
     Lengths,
     Orders,
     Paths,
@@ -11,6 +12,26 @@ pub enum Answer {
     Rows,
     Gains,
     Lags,
+}
+
+// Accepted, or why not. `code_of` gives the number of each answer.
+pub type Answer = Result<(), Refusal>;
+
+impl Refusal {
+    // Its number. By this name and no `From`: the clause cites the definition.
+    pub fn number(self) -> u32
+        ensures { result ≡ refusal_code self }
+    {
+        match self {
+            Refusal::Lengths => 1,
+            Refusal::Orders => 2,
+            Refusal::Paths => 3,
+            Refusal::Kinds => 4,
+            Refusal::Rows => 5,
+            Refusal::Gains => 6,
+            Refusal::Lags => 7,
+        }
+    }
 }
 
 // How long the rows are of which only the length decides. The rows of gains and of lags are looked into, so they are lent.

@@ -5,7 +5,7 @@ ghost use Rattle.refusal_rules.specs.Table.{answer_of};
 use crate::rows;
 use lag_limits::lags;
 use limits::gains;
-use refusal_rules::answer::{Answer, Sizes};
+use refusal_rules::answer::{Answer, Refusal, Sizes};
 use setting_limits::settings;
 use silk::structs::Settings;
 
@@ -21,25 +21,25 @@ pub fn check(
     ensures { result ≡ answer_of s z lagPrev prev_gain_Q16 gains.now lags.now }
 {
     if settings::lengths_refused(s.subfr_length, s.nb_subfr) {
-        return Answer::Lengths;
+        return Err(Refusal::Lengths);
     }
     if settings::orders_refused(s.subfr_length, s.predictLPCOrder, s.shapingLPCOrder) {
-        return Answer::Orders;
+        return Err(Refusal::Orders);
     }
     if settings::paths_refused(s.nStatesDelayedDecision) {
-        return Answer::Paths;
+        return Err(Refusal::Paths);
     }
     if settings::kinds_refused(s.signalType, s.quantOffsetType, s.NLSFInterpCoef_Q2, s.Seed) {
-        return Answer::Kinds;
+        return Err(Refusal::Kinds);
     }
     if rows::rows_refused(s.subfr_length, s.nb_subfr, z, gains.len(), lags.len()) {
-        return Answer::Rows;
+        return Err(Refusal::Rows);
     }
     if gains::gains_refused(prev_gain_Q16, gains) {
-        return Answer::Gains;
+        return Err(Refusal::Gains);
     }
     if lags::lags_refused(s.subfr_length, s.signalType, lagPrev, lags) {
-        return Answer::Lags;
+        return Err(Refusal::Lags);
     }
-    Answer::Accepted
+    Ok(())
 }

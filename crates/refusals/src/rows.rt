@@ -9,19 +9,9 @@ use refusal_rules::answer::Sizes;
 fn each_refused(n: usize, z: Sizes, gains: usize, lags: usize) -> bool
     ensures { result ≡ each_refused n z gains lags }
 {
-    if z.harm_gain != n {
-        return true;
-    }
-    if z.tilt != n {
-        return true;
-    }
-    if z.lf != n {
-        return true;
-    }
-    if gains != n {
-        return true;
-    }
-    lags != n
+    [z.harm_gain, z.tilt, z.lf, gains, lags]
+        .iter()
+        .any(|words| *words != n)
 }
 
 // 5: a row has another length. A product of two counts of 31 bits fits, so the settings need not have been tested before.
@@ -30,20 +20,10 @@ pub fn rows_refused(l: i32, n: i32, z: Sizes, gains: usize, lags: usize) -> bool
 {
     let subframes = count::count(n);
     let frame = subframes * count::count(l);
-    if z.samples != frame {
-        return true;
-    }
-    if z.pred_coef != 32 {
-        return true;
-    }
-    if z.ltp_coef != 5 * subframes {
-        return true;
-    }
-    if z.ar != 24 * subframes {
-        return true;
-    }
-    if z.pulses != frame {
-        return true;
-    }
-    each_refused(subframes, z, gains, lags)
+    z.samples != frame
+        || z.pred_coef != 32
+        || z.ltp_coef != 5 * subframes
+        || z.ar != 24 * subframes
+        || z.pulses != frame
+        || each_refused(subframes, z, gains, lags)
 }

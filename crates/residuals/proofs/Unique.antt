@@ -2,6 +2,7 @@
 -- Assumes nothing.
 use mathlib.Core.Path.{◌≡◌, sym, ◌∙◌}
 use Rattle.residuals.proofs.offset.quant_offset.Reads as quant-offset
+use Rattle.residuals.proofs.residual.turned.Reads as turned
 use Rattle.residuals.proofs.residual.signed_residual.Reads as signed-residual
 use Rattle.residuals.proofs.residual.signed_excitation.Reads as signed-excitation
 use Rattle.residuals.proofs.residual.pulse_of.Reads as pulse-of
@@ -9,6 +10,9 @@ use Rattle.residuals.proofs.residual.seed_with.Reads as seed-with
 
 pub quant-offset-unique : (κs a r s e : _) → quant-offset.Post κs a r e → quant-offset.Post κs a s e → r ≡ s
 quant-offset-unique κs a r s e p q = p ∙ sym q
+
+pub turned-unique : (κs a r s e : _) → turned.Post κs a r e → turned.Post κs a s e → r ≡ s
+turned-unique κs a r s e p q = p ∙ sym q
 
 pub signed-residual-unique : (κs a r s e : _) → signed-residual.Post κs a r e → signed-residual.Post κs a s e → r ≡ s
 signed-residual-unique κs a r s e p q = p ∙ sym q

@@ -8,33 +8,21 @@ use limits::count;
 pub fn outside(lo: i32, hi: i32, x: i32) -> bool
     ensures { result ≡ outside_z lo hi x }
 {
-    if x < lo {
-        return true;
-    }
-    hi < x
+    x < lo || hi < x
 }
 
 // The subframe lengths. They stand here, and in `length_allowed`, alone.
 fn length_allowed(l: i32) -> bool
     ensures { result ≡ length_allowed l }
 {
-    if l == 40 {
-        return true;
-    }
-    if l == 60 {
-        return true;
-    }
-    l == 80
+    l == 40 || l == 60 || l == 80
 }
 
 // The subframe counts.
 fn count_allowed(n: i32) -> bool
     ensures { result ≡ count_allowed n }
 {
-    if n == 2 {
-        return true;
-    }
-    n == 4
+    n == 2 || n == 4
 }
 
 // The prediction order that goes with a subframe length.
@@ -55,23 +43,14 @@ fn odd(x: i32) -> bool
 pub fn lengths_refused(l: i32, n: i32) -> bool
     ensures { result ≡ lengths_refused l n }
 {
-    if !length_allowed(l) {
-        return true;
-    }
-    !count_allowed(n)
+    !length_allowed(l) || !count_allowed(n)
 }
 
 // 2: the prediction order is not the one for L, or the shaping order is not even, 2 to 24.
 pub fn orders_refused(l: i32, order: i32, shaping: i32) -> bool
     ensures { result ≡ orders_refused l order shaping }
 {
-    if order != order_for(l) {
-        return true;
-    }
-    if outside(2, 24, shaping) {
-        return true;
-    }
-    odd(shaping)
+    order != order_for(l) || outside(2, 24, shaping) || odd(shaping)
 }
 
 // 3: the path count is not 1 to 4.
@@ -85,14 +64,5 @@ pub fn paths_refused(paths: i32) -> bool
 pub fn kinds_refused(kind: i32, offset: i32, interp: i32, seed: i32) -> bool
     ensures { result ≡ kinds_refused kind offset interp seed }
 {
-    if outside(0, 2, kind) {
-        return true;
-    }
-    if outside(0, 1, offset) {
-        return true;
-    }
-    if outside(0, 4, interp) {
-        return true;
-    }
-    outside(0, 3, seed)
+    outside(0, 2, kind) || outside(0, 1, offset) || outside(0, 4, interp) || outside(0, 3, seed)
 }

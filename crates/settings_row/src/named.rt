@@ -5,6 +5,7 @@ ghost use Rattle.settings_row.specs.Named.{settings_of};
 use silk::structs::Settings;
 
 // The settings that the first 12 words of a row are.
+#[tactic(auto, unfolding(crate::specs::Named::settings_of))]
 pub fn settings_of(row: &[i32]) -> Settings
     requires { 12 ≤ length row.now }
     ensures { result ≡ settings_of row.now }

@@ -7,61 +7,67 @@
 #![tactic(auto)]
 
 mod answers;
-mod digest;
 mod words;
 
-use program_words::bits;
+use digests::fnv::Fnv64;
+use harmonic::terms;
+use noise::{noise_terms, output};
 use seeds::generator;
-use shifts::range;
+use std::io;
 
-const FUNCTIONS: usize = 12;
-
-const TURNS: usize = 2000;
-
-fn main() {
-    for function in 0..FUNCTIONS {
-        replay(function);
-    }
-}
-
-// One function's line: its name, four answers and the digest of all.
-fn replay(function: usize) {
-    name(function);
-    let mut seed: i32 = 1;
-    let mut sum = digest::start();
-    for i in 0..TURNS {
+// One function's line: its name, the first four of 2000 answers and the digest of all. Each answer is to a seed and the number of the turn.
+fn replay<F: Fn(i32, usize) -> i32>(rt: &impl Print, name: &str, answer: F) -> io::Result<()>
+    requires { F.IsAlwaysCallable answer }
+{
+    print!(rt; "{name}")?;
+    let mut seed = 1;
+    let mut digest = Fnv64::new();
+    for i in 0..2000 {
         seed = generator::rand(seed);
-        let answer = answers::answer(function, seed, i);
+        let a = answer(seed, i);
         if i < 4 {
-            print(answer);
+            print!(rt; " {a}")?;
         }
-        sum = digest::word(sum, answer);
+        digest = digest.word(a);
     }
-    io::write_all(1, b" ");
-    io::print_hex(1, sum, 16);
-    io::write_all(1, b"\n");
+    println!(rt; " {:016x}", digest.sum)
 }
 
-// The function's name: its line of the text, without the end of the line.
-fn name(function: usize) {
-    let names =
-        b"short_prediction\nltp_prediction\nwarped_filter, sum\nwarped_filter, words\nn_AR\nn_LF\nharm_shape_packed\nn_LTP\nresidual\npulse_of\nxq_out8\nxq_out14\n";
-    let mut before = function;
-    for i in 0..141 {
-        let letter = [names[i]];
-        if names[i] == 10 {
-            before = if before == 0 { FUNCTIONS } else { before - 1 };
-        } else if before == 0 {
-            io::write_all(1, &letter);
-        }
-    }
+// The same of a function of up to three words.
+fn of_words<F: Fn(i32, i32, i32) -> i32>(rt: &impl Print, name: &str, answer: F) -> io::Result<()>
+    requires { F.IsAlwaysCallable answer }
+{
+    replay(rt, name, |seed, _i| {
+        let [x, y, z] = words::words::<3>(seed);
+        answer(x, y, z)
+    })
 }
 
-// A space and a number. The bits of |x| are |x| also for the least number, which has no negation.
-fn print(x: i32) {
-    io::write_all(1, b" ");
-    if x < 0 {
-        io::write_all(1, b"-");
-    }
-    io::print_decimal(1, bits::bits32(range::abs32(x)) as u64);
+fn main(rt: HostRuntime) -> io::Result<()> {
+    replay(&rt, "short_prediction", answers::short)?;
+    replay(&rt, "ltp_prediction", answers::long)?;
+    replay(&rt, "warped_filter, sum", answers::warped_sum)?;
+    replay(&rt, "warped_filter, words", answers::warped_words)?;
+    of_words(&rt, "n_AR", noise_terms::n_AR)?;
+    of_words(&rt, "n_LF", noise_terms::n_LF)?;
+    of_words(
+        &rt,
+        "harm_shape_packed",
+        |x, _y, _z| terms::harm_shape_packed(x),
+    )?;
+    replay(&rt, "n_LTP", answers::harmonic_term)?;
+    replay(&rt, "residual", |seed, _i| answers::residual(seed))?;
+    replay(&rt, "pulse_of", |seed, _i| {
+        i32::from(output::pulse_of(words::level(seed)))
+    })?;
+    of_words(
+        &rt,
+        "xq_out8",
+        |x, y, _z| i32::from(output::xq_out(x, y, 8)),
+    )?;
+    of_words(
+        &rt,
+        "xq_out14",
+        |x, y, _z| i32::from(output::xq_out(x, y, 14)),
+    )
 }

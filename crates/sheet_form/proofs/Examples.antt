@@ -2,14 +2,15 @@
 use mathlib.Core.Path.{◌≡◌, refl}
 use mathlib.Core.List.{[], ◌∷◌}
 use lib.IntN.{pos, negsuc}
-use Rattle.sheet_words.specs.Number.{is, unreadable, got, bad, separator, in_word, digit, run, skip, word, after_word, value, decimal, magnitude, signed, number_of, within, in_range, and_rest, number}
+use Rattle.std.specs.Prelude.{Some, None}
+use Rattle.sheet_words.specs.Number.{got, bad, separator, in_word, digit, run, skip, word, after_word, value, decimal, magnitude, signed, number_of, within, in_range, and_rest, number}
 use Rattle.sheet_form.specs.Sections.{i16, row, section, numbers, and_then, before, or_fault, fault, sections, layout, reading}
 
 -- `-0`, `007`, `-32768`; `+5`, `-`, `5-3`, and an eleventh digit
 pub number-words :
-    (number_of (45 ∷ 48 ∷ []) ≡ is (pos 0)) × (number_of (48 ∷ 48 ∷ 55 ∷ []) ≡ is (pos 7)) × (number_of (45 ∷ 51 ∷ 50 ∷ 55 ∷ 54 ∷ 56 ∷ []) ≡ is (negsuc 32767))
-    × (number_of (43 ∷ 53 ∷ []) ≡ unreadable) × (number_of (45 ∷ []) ≡ unreadable) × (number_of (53 ∷ 45 ∷ 51 ∷ []) ≡ unreadable)
-    × (number_of (48 ∷ 48 ∷ 48 ∷ 48 ∷ 48 ∷ 48 ∷ 48 ∷ 48 ∷ 48 ∷ 48 ∷ 53 ∷ []) ≡ unreadable)
+    (number_of (45 ∷ 48 ∷ []) ≡ Some (pos 0)) × (number_of (48 ∷ 48 ∷ 55 ∷ []) ≡ Some (pos 7)) × (number_of (45 ∷ 51 ∷ 50 ∷ 55 ∷ 54 ∷ 56 ∷ []) ≡ Some (negsuc 32767))
+    × (number_of (43 ∷ 53 ∷ []) ≡ None) × (number_of (45 ∷ []) ≡ None) × (number_of (53 ∷ 45 ∷ 51 ∷ []) ≡ None)
+    × (number_of (48 ∷ 48 ∷ 48 ∷ 48 ∷ 48 ∷ 48 ∷ 48 ∷ 48 ∷ 48 ∷ 48 ∷ 53 ∷ []) ≡ None)
 unfolding number_of signed magnitude decimal value run digit
 number-words = (refl, refl, refl, refl, refl, refl, refl)
 

@@ -1,42 +1,23 @@
 -- Every number of a section fits where the section's range does. Assumes nothing.
-use mathlib.Core.Path.{◌≡◌, refl, ap}
-use mathlib.Core.List.{List, [], ◌∷◌, ◌++◌}
-use Prim.Native.Nat.{ℕ, zero, suc, ◌-◌, ◌+◌, ◌≤◌, ◌<◌}
+use mathlib.Core.Path.{◌≡◌, refl, ap, ◌∙◌}
+use mathlib.Core.List.{List, [], ◌∷◌}
+use Prim.Native.Nat.{ℕ, zero, suc, ◌≤◌}
 use native.Mathlib.Omega.{arith}
-use lib.ListN.{length, get_or, replicate, take, set}
-use lib.Seq.{take-suc, take-suc-set, take-append_seam}
+use lib.ListN.{length, get_or, replicate, take}
 use lib.IntN.{ℤ, pos, negsuc, nat_abs}
 use lib.Dec.{T}
 use lib.Signed.{lt_z, non_neg}
 use mathlib.Core.Bool.{false}
-use native.Mathlib.Numerals.{add-one}
 use mir.Syntax.{Width, w8, w16}
 use mir.Val.{SFits}
 use mir.Facts.{sfits_lit}
 use Rattle.silk.specs.State.{zeros}
 use Rattle.sheet_words.specs.Number.{Range, Read, got, bad, number}
-use Rattle.sheet_form.specs.Sections.{Kind, and_then, before, numbers, section, row, i8, i16}
-use Rattle.sheet_form.specs.Rows.{Rest, left, stopped, padded, taken, take_section, All}
+use Rattle.sheet_form.specs.Sections.{Kind, and_then, before, numbers, section, row, settings, triple, i8, i16, i32}
 use Rattle.sheet_form.proofs.Numbers.{number_fits, number-range}
 use Rattle.fixed.proofs.Lin.{lt-false}
 
--- ---- past its end a row has zeros
-replicate-at : (n i : ℕ) → get_or (replicate n (pos 0)) i (pos 0) ≡ pos 0
-replicate-at zero i = refl
-replicate-at (suc n) zero = refl
-replicate-at (suc n) (suc i) = replicate-at n i
-
-zeros-at : (zs : List ℤ) (n i : ℕ) → get_or (zs ++ zeros n) i (pos 0) ≡ get_or zs i (pos 0)
-unfolding zeros
-zeros-at [] n i = replicate-at n i
-zeros-at (z ∷ zs) n zero = refl
-zeros-at (z ∷ zs) n (suc i) = zeros-at zs n i
-
-pub padded-at : (zs : List ℤ) (i : ℕ) → get_or (padded zs) i (pos 0) ≡ get_or zs i (pos 0)
-unfolding padded
-padded-at zs i = zeros-at zs (320 - length zs) i
-
--- ---- the first words of a row
+-- ---- zeros
 take-zeros : (n m : ℕ) → n ≤ m → take n (replicate m (pos 0)) ≡ replicate n (pos 0)
 take-zeros zero m h = refl
 take-zeros (suc n) zero h = absurd (omega arith)
@@ -47,13 +28,13 @@ pub zeros-first : (n : ℕ) → n ≤ 320 → take n (zeros 320) ≡ zeros n
 unfolding zeros
 zeros-first n h = take-zeros n 320 h
 
--- of a row with its zeros, as many as were read
-pub padded-first : (zs : List ℤ) → take (length zs) (padded zs) ≡ zs
-unfolding padded
-padded-first zs = take-append_seam zs (zeros (320 - length zs))
-
 -- ---- the numbers that were read
-abbrev AllRead : Width → Read (List ℤ) → Type 0
+-- every number fits the width; 0 stands past the last
+abbrev pub All : Width → List ℤ → Type 0
+All w zs = (i : ℕ) → SFits w (get_or zs i (pos 0))
+
+-- .. of those that were read
+abbrev pub AllRead : Width → Read (List ℤ) → Type 0
 AllRead w (got zs s) = All w zs
 AllRead w bad = Unit {0}
 
@@ -85,35 +66,18 @@ module _ (w : Width) (r : Range) (low_fits : SFits w r.low) (high_fits : SFits w
   count_fits (got n t) = numbers_fit (nat_abs n) t
   count_fits bad = tt
 
-  taken-fits : (k : ℕ) (m : Read (List ℤ)) → AllRead w m → All w (taken k m).row
-  unfolding taken
-  taken-fits k (got zs s) h = h
-  taken-fits k bad h = none-fits
-
   -- the numbers of a section
-  row_fits : (k : ℕ) (rest : Rest) → All w (take_section (row r) k rest).row
-  unfolding take_section section
-  row_fits k (left s) = taken-fits k _ (count_fits (number (row r).counts s))
-  row_fits k (stopped j) = none-fits
+  row_fits : (s : List ℕ) → AllRead w (section (row r) s)
+  unfolding section
+  row_fits s = count_fits (number (row r).counts s)
 
 -- the numbers of a section of 16-bit numbers
-pub section-fits : (k : ℕ) (rest : Rest) → All w16 (take_section (row i16) k rest).row
-section-fits k rest = row_fits w16 i16 (sfits_lit tt) (sfits_lit tt) (sfits_lit tt) k rest
+pub section-fits : (s : List ℕ) → AllRead w16 (section (row i16) s)
+section-fits s = row_fits w16 i16 (sfits_lit tt) (sfits_lit tt) (sfits_lit tt) s
 
 -- .. and of 8-bit numbers
-pub bytes-section-fits : (k : ℕ) (rest : Rest) → All w8 (take_section (row i8) k rest).row
-bytes-section-fits k rest = row_fits w8 i8 (sfits_lit tt) (sfits_lit tt) (sfits_lit tt) k rest
-
--- and the row with its zeros
-pub padded-fit : (w : Width) (zs : List ℤ) → All w zs → All w (padded zs)
-padded-fit w zs h i = rw (padded-at zs i) (h i)
-
--- and its first words
-pub take-fit : (w : Width) (n : ℕ) (zs : List ℤ) → SFits w (pos 0) → All w zs → All w (take n zs)
-take-fit w zero zs z h i = z
-take-fit w (suc n) [] z h i = z
-take-fit w (suc n) (x ∷ zs) z h zero = h zero
-take-fit w (suc n) (x ∷ zs) z h (suc i) = take-fit w n zs z (λ j. h (suc j)) i
+pub bytes-section-fits : (s : List ℕ) → AllRead w8 (section (row i8) s)
+bytes-section-fits s = row_fits w8 i8 (sfits_lit tt) (sfits_lit tt) (sfits_lit tt) s
 
 -- ---- a section by its count
 pub section-got : (kind : Kind) (s t : List ℕ) (n : ℤ) → number kind.counts s ≡ got n t → section kind s ≡ numbers kind.words (nat_abs n) t
@@ -132,6 +96,46 @@ count-is least most (negsuc n) p q = absurd (omega (arith, lt-false (negsuc n) (
 pub count_small : (least most : ℕ) (s t : List ℕ) (n : ℤ) → number (record { low = pos least; high = pos most }) s ≡ got n t → T (non_neg n) × (nat_abs n ≤ most)
 count_small least most s t n e = let p = number-range (record { low = pos least; high = pos most }) s t n e in count-is least most n p.0 p.1
 
--- ---- a row copied word by word
-pub copied : (out words : List ℤ) (i : ℕ) → i < length out → i < length words → take i out ≡ take i words → take (i + 1) (set out i (get_or words i (pos 0))) ≡ take (i + 1) words
-copied out words i h k e = rw (add-one i, take-suc-set out i (get_or words i (pos 0)) h, take-suc words i (pos 0) k, e)
+-- ---- how many numbers a section has
+before-length : (n : ℕ) (z : ℤ) (m : Read (List ℤ)) (zs : List ℤ) (t : List ℕ) → before z m ≡ got zs t
+    → ((ys : List ℤ) (u : List ℕ) → m ≡ got ys u → length ys ≡ n) → length zs ≡ suc n
+unfolding before
+before-length n z (got ys u) zs t e h = let f : z ∷ ys ≡ zs = cc in rw (← f) (ap suc (h ys u refl))
+before-length n z bad zs t e h = absurd (let x : ◌≡◌ {A = ℕ} 0 1 = cc in omega arith)
+
+then-length : (n : ℕ) (r : Range) (m : Read ℤ) (zs : List ℤ) (t : List ℕ) → and_then m (λ z u. before z (numbers r n u)) ≡ got zs t
+    → ((s u : List ℕ) (ys : List ℤ) → numbers r n s ≡ got ys u → length ys ≡ n) → length zs ≡ suc n
+unfolding and_then
+then-length n r (got z s) zs t e h = before-length n z (numbers r n s) zs t e (λ ys u. h s u ys)
+then-length n r bad zs t e h = absurd (let x : ◌≡◌ {A = ℕ} 0 1 = cc in omega arith)
+
+-- as many as were asked for
+pub numbers-length : (r : Range) (n : ℕ) (s t : List ℕ) (zs : List ℤ) → numbers r n s ≡ got zs t → length zs ≡ n
+unfolding numbers
+numbers-length r zero s t zs e = let f : ◌≡◌ {A = List ℤ} [] zs = cc in rw (← f)
+numbers-length r (suc n) s t zs e = then-length n r (number r s) zs t e (λ u v ys. numbers-length r n u v ys)
+
+exact-by : (k : ℕ) (r : Range) (m : Read ℤ) (t : List ℕ) (zs : List ℤ) → and_then m (λ n u. numbers r (nat_abs n) u) ≡ got zs t
+    → ((n : ℤ) (u : List ℕ) → m ≡ got n u → nat_abs n ≡ k) → length zs ≡ k
+unfolding and_then
+exact-by k r (got n u) t zs e h = numbers-length r (nat_abs n) u t zs e ∙ h n u refl
+exact-by k r bad t zs e h = absurd (let x : ◌≡◌ {A = ℕ} 0 1 = cc in omega arith)
+
+exact-abs : (k : ℕ) (n : ℤ) → lt_z n (pos k) ≡ false → lt_z (pos k) n ≡ false → nat_abs n ≡ k
+exact-abs k (pos n) p q = omega (arith, lt-false (pos n) (pos k) p, lt-false (pos k) (pos n) q)
+exact-abs k (negsuc n) p q = absurd (omega (arith, lt-false (negsuc n) (pos k) p))
+
+-- a section of exactly k numbers has them
+exact : (k : ℕ) (r : Range) (s t : List ℕ) (zs : List ℤ) → section (record { counts = record { low = pos k; high = pos k }; words = r }) s ≡ got zs t → length zs ≡ k
+unfolding section
+exact k r s t zs e =
+    let c : Range = record { low = pos k; high = pos k } in
+    exact-by k r (number c s) t zs e (λ n u f. let p = number-range c s u n f in exact-abs k n p.0 p.1)
+
+-- the twelve settings
+pub twelve : (s t : List ℕ) (zs : List ℤ) → section settings s ≡ got zs t → length zs ≡ 12
+twelve s t zs e = exact 12 i32 s t zs e
+
+-- .. and the three of a triple
+pub three : (s t : List ℕ) (zs : List ℤ) → section triple s ≡ got zs t → length zs ≡ 3
+three s t zs e = exact 3 i32 s t zs e

@@ -1,9 +1,8 @@
-pub mod Variants
 pub mod NextWord
 pub mod Numbers
 pub mod Fitting
 pub mod Whole
 pub mod Faults
 pub mod Paths
-pub mod Unique
 pub mod Examples
+pub mod Unique

@@ -1,13 +1,11 @@
 -- The next word of a text, by the places where it starts and ends. Assumes nothing.
-use mathlib.Core.Path.{◌≡◌, refl, ◌∙◌}
+use mathlib.Core.Path.{◌≡◌, ◌∙◌}
 use mathlib.Core.List.{List, []}
 use Prim.Native.Nat.{ℕ, ◌+◌, ◌-◌, ◌≤◌}
 use native.Mathlib.Omega.{arith}
 use lib.ListN.{length, take, drop, drop_of_length-le}
 use lib.Seq.{drop-drop, take-nil}
-use lib.IntN.{ℤ}
-use Rattle.sheet_words.specs.Number.{Maybe, is, unreadable, Range, bad, run, separator, in_word, skip, word, after_word, number_of, in_range, and_rest, number}
-use Rattle.sheet_form.specs.Found.{number_at, number_found}
+use Rattle.sheet_words.specs.Number.{Range, bad, run, separator, in_word, skip, word, after_word, number_of, in_range, and_rest, number}
 
 module _ (text : List ℕ) (at start : ℕ) (e : start ≡ at + run separator (drop at text)) where
   pub skip_at : skip (drop at text) ≡ drop start text
@@ -26,9 +24,3 @@ module _ (text : List ℕ) (at start : ℕ) (e : start ≡ at + run separator (d
   pub number-none : (r : Range) → length text ≤ start → number r (drop at text) ≡ bad
   unfolding number word after_word number_of in_range and_rest
   number-none r h = rw (skip_at, drop_of_length-le text {i = start} h, take-nil {A = ℕ} (run in_word []))
-
--- a number in its place
-pub found_at : (text : List ℕ) (m : Maybe ℤ) (end : ℕ) → number_found text (number_at m end) ≡ and_rest m (drop end text)
-unfolding and_rest
-found_at text (is z) end = refl
-found_at text unreadable end = refl

@@ -1,4 +1,3 @@
 pub mod Sections
 pub mod Found
-pub mod Rows
 pub mod Sheets

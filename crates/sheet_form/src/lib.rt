@@ -2,6 +2,7 @@
 #![tactic(auto)]
 
 pub mod blank;
+pub mod fault;
 mod number;
 pub mod rows;
 pub mod section;

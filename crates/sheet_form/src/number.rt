@@ -1,42 +1,40 @@
 // A number in its place in the text.
 ghost use Rattle.std.specs.Prelude.{◌≡◌, drop};
 ghost use Rattle.sheet_words.specs.Number.{within as within_z, number};
-ghost use Rattle.sheet_form.specs.Found.{number_found, range, number_at};
+ghost use Rattle.sheet_form.specs.Found.{range, number_found};
 
 use sheet_words::words;
-use sheet_words::words::{Class, Word};
+use sheet_words::words::Class;
 
-// The number that was read, and the place after it.
+// The numbers from `low` to `high`.
 #[derive(Clone, Copy)]
-pub enum Number {
-    Is(i64, usize),
-    Unreadable,
+pub struct Bounds {
+    pub low: i64,
+    pub high: i64,
 }
 
-// The number z, whose word ends at `end`, if it is in the range.
-fn within(z: i64, low: i64, high: i64, end: usize) -> Number
-    ensures { result ≡ number_at (within_z (range low high) z) end }
-{
-    if z < low {
-        Number::Unreadable
-    } else if high < z {
-        Number::Unreadable
-    } else {
-        Number::Is(z, end)
+impl Bounds {
+    // The number, if it lies between the bounds.
+    fn within(self, z: i64) -> Option<i64>
+        ensures { result ≡ within_z (range self) z }
+    {
+        if z < self.low || self.high < z {
+            None
+        } else {
+            Some(z)
+        }
     }
 }
 
-// The next word from `at` on as a number from `low` to `high`.
-pub fn number_in(text: &[u8], at: usize, low: i64, high: i64) -> Number
-    ensures { number_found text.now result ≡ number (range low high) (drop at text.now) }
+// The next word from `at` on as a number between the bounds, and the place after it.
+pub fn number_in(text: &[u8], at: usize, bounds: Bounds) -> Option<(i64, usize)>
+    ensures { number_found text.now result ≡ number (range bounds) (drop at text.now) }
 {
     let start = words::end_of_run(text, at, Class::Separator);
     if text.len() <= start {
-        return Number::Unreadable;
+        return None;
     }
     let end = words::end_of_run(text, start, Class::InWord);
-    match words::number_of(&text[start..end]) {
-        Word::Is(z) => within(z, low, high, end),
-        Word::Unreadable => Number::Unreadable,
-    }
+    let z = words::number_of(&text[start..end])?;
+    Some((bounds.within(z)?, end))
 }

@@ -1,8 +1,8 @@
 -- The call that the code makes of a sheet is the call that the definition makes of its sections. Assumes nothing.
 use mathlib.Core.Path.{◌≡◌, refl}
 use Prim.Native.Nat.{ℕ}
-use mathlib.Core.List.{List, []}
-use lib.ListN.{get_or, take, length}
+use mathlib.Core.List.{List}
+use lib.ListN.{length}
 use lib.IntN.{ℤ}
 use Rattle.silk.specs.declared.structs.Settings.{Settings}
 use Rattle.silk.specs.declared.structs.NsqState.{NsqState}
@@ -16,8 +16,6 @@ use Rattle.steps.specs.Entry.{answered}
 use Rattle.steps.specs.Sizes.{sizes_of}
 use Rattle.sheet_form.specs.Sheets.{with_default, sheet_with}
 use Rattle.sheet_form.specs.declared.sheet.Sheet.{Sheet}
-use Rattle.sheet_form.specs.declared.sheet.Verdict.{Verdict}
-use Rattle.sheet_form.proofs.Fitting.{padded-first}
 use Rattle.sheet_form.proofs.Numbers.{zeros-length}
 use Rattle.sheet_print.specs.Rows.{rows_of}
 use Rattle.sheet_page.specs.Calls.{settings_in, samples_in, sheet_call, defaulted, frame_length, pulses_for, sheet_answer, sheet_outcome}
@@ -30,15 +28,15 @@ pub record Lent (read : Sheet) (c : Call) (x : List ℤ) : Type 0 where
 pub lent-call : (read : Sheet) (s : Settings) (state : NsqState) (x pred ltp ar harm tilt lf gains lags : List ℤ)
     → s ≡ with_default read.settings
     → state ≡ fresh_state
-    → x ≡ take read.samples.count read.samples.words
-    → pred ≡ take read.pred_coef.count read.pred_coef.words
-    → ltp ≡ take read.ltp_coef.count read.ltp_coef.words
-    → ar ≡ take read.ar.count read.ar.words
-    → harm ≡ take read.harm_gains.count read.harm_gains.words
-    → tilt ≡ take read.tilts.count read.tilts.words
-    → lf ≡ take read.lfs.count read.lfs.words
-    → gains ≡ take read.gains.count read.gains.words
-    → lags ≡ take read.lags.count read.lags.words
+    → x ≡ read.samples.items
+    → pred ≡ read.pred_coef.items
+    → ltp ≡ read.ltp_coef.items
+    → ar ≡ read.ar.items
+    → harm ≡ read.harm_gains.items
+    → tilt ≡ read.tilts.items
+    → lf ≡ read.lfs.items
+    → gains ≡ read.gains.items
+    → lags ≡ read.lags.items
     → Lent read (call_of s state pred ltp ar harm tilt lf gains lags) x
 unfolding defaulted sheet_call rows_of settings_of
 lent-call read s state x pred ltp ar harm tilt lf gains lags e1 e2 e3 e4 e5 e6 e7 e8 e9 e10 e11 =
@@ -46,13 +44,13 @@ lent-call read s state x pred ltp ar harm tilt lf gains lags e1 e2 e3 e4 e5 e6 e
 
 -- ---- .. and so are their lengths, and the answer
 pub lent-sizes : (read : Sheet) (x pred ltp ar harm tilt lf n : ℕ)
-    → x ≡ length (take read.samples.count read.samples.words)
-    → pred ≡ length (take read.pred_coef.count read.pred_coef.words)
-    → ltp ≡ length (take read.ltp_coef.count read.ltp_coef.words)
-    → ar ≡ length (take read.ar.count read.ar.words)
-    → harm ≡ length (take read.harm_gains.count read.harm_gains.words)
-    → tilt ≡ length (take read.tilts.count read.tilts.words)
-    → lf ≡ length (take read.lfs.count read.lfs.words)
+    → x ≡ length read.samples.items
+    → pred ≡ length read.pred_coef.items
+    → ltp ≡ length read.ltp_coef.items
+    → ar ≡ length read.ar.items
+    → harm ≡ length read.harm_gains.items
+    → tilt ≡ length read.tilts.items
+    → lf ≡ length read.lfs.items
     → n ≡ frame_length read.settings
     → ◌≡◌ {A = Sizes}
     (record { samples = x; pred_coef = pred; ltp_coef = ltp; ar = ar; harm_gain = harm; tilt = tilt; lf = lf; pulses = n })
@@ -65,27 +63,16 @@ pub lent-answer : (read : Sheet) (s : Settings) (z : Sizes) (lag gain : ℤ) (ga
     → z ≡ sizes_of (defaulted (sheet_call (rows_of read))) (samples_in (rows_of read)) (pulses_for (settings_in (rows_of read)))
     → lag ≡ fresh_state.lagPrev
     → gain ≡ fresh_state.prev_gain_Q16
-    → gains ≡ take read.gains.count read.gains.words
-    → lags ≡ take read.lags.count read.lags.words
+    → gains ≡ read.gains.items
+    → lags ≡ read.lags.items
     → answer_of s z lag gain gains lags ≡ sheet_answer (rows_of read)
 unfolding sheet_answer answered defaulted sheet_call rows_of settings_of
 lent-answer read s z lag gain gains lags e1 e2 e3 e4 e5 e6 = rw (e2, e1, e3, e4, e5, e6) refl
 
 -- ---- a sheet that was read holds its sections
-pub held-outcome : (rule : Rule) (v : Verdict) (rows : List (List ℤ)) → sheet_outcome rule (rows_of (sheet_with v rows)) ≡ sheet_outcome rule rows
+pub held-outcome : (rule : Rule) (rows : List (List ℤ)) → sheet_outcome rule (rows_of (sheet_with rows)) ≡ sheet_outcome rule rows
 unfolding sheet_outcome sheet_call rows_of sheet_with settings_of
-held-outcome rule v rows =
-    rw (
-      padded-first (get_or rows 1 []),
-      padded-first (get_or rows 2 []),
-      padded-first (get_or rows 3 []),
-      padded-first (get_or rows 4 []),
-      padded-first (get_or rows 5 []),
-      padded-first (get_or rows 6 []),
-      padded-first (get_or rows 7 []),
-      padded-first (get_or rows 8 []),
-      padded-first (get_or rows 9 []),
-    )
+held-outcome rule rows = refl
 
 -- its settings are the numbers of the first section
 pub held-settings : (read : Sheet) → settings_in (rows_of read) ≡ read.settings

@@ -17,9 +17,9 @@ use Rattle.silk.proofs.Zeros.{zeros-word}
 use Rattle.silk.specs.State.{zeros}
 use Rattle.pages.specs.Page.{page, puts}
 use Rattle.pages.proofs.Pages.{puts-leaves, Whole, whole-page as on-page}
-use Rattle.refusal_rules.specs.declared.answer.Answer.{Answer}
-use Rattle.refusal_rules.specs.declared.answer.Answer.TheVariants.{Accepted, Lengths, Orders, Paths, Kinds, Rows, Gains, Lags}
-use Rattle.refusal_rules.specs.Code.{code_of}
+use Rattle.refusal_rules.specs.declared.answer.Refusal.TheVariants.{Lengths, Orders, Paths, Kinds, Rows, Gains, Lags}
+use Rattle.refusal_rules.specs.Code.{Answer, code_of}
+use Rattle.std.specs.Prelude.{Ok, Err}
 use Rattle.steps.specs.Among.{Rule, keeps_first}
 use Rattle.steps.specs.Call.{Call}
 use Rattle.steps.specs.Entry.{answered, outcome}
@@ -46,14 +46,14 @@ zeros-bytes : (n i : ℕ) → SFits w8 (word (zeros n) i)
 zeros-bytes n i = rw (zeros-word n i) (sfits_lit tt)
 
 code-small : (a : Answer) → code_of a < 100000
-code-small Accepted = omega arith
-code-small Lengths = omega arith
-code-small Orders = omega arith
-code-small Paths = omega arith
-code-small Kinds = omega arith
-code-small Rows = omega arith
-code-small Gains = omega arith
-code-small Lags = omega arith
+code-small (Ok u) = omega arith
+code-small (Err Lengths) = omega arith
+code-small (Err Orders) = omega arith
+code-small (Err Paths) = omega arith
+code-small (Err Kinds) = omega arith
+code-small (Err Rows) = omega arith
+code-small (Err Gains) = omega arith
+code-small (Err Lags) = omega arith
 
 -- ---- the text of a call that is lent n zeros for its pulses: 26 bytes for its number and its seed, 7 for each pulse with what follows it
 call-short : (rule : Rule) (c : Call) (x : List ℤ) (n : ℕ) (b : Bool) → eqb (code_of (answered c x (zeros n))) 0 ≡ b

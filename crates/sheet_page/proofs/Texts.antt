@@ -2,15 +2,18 @@
 use mathlib.Core.Path.{◌≡◌, refl, sym, ap, ◌∙◌}
 use mathlib.Core.Bool.{Bool, true, false}
 use mathlib.Core.List.{List}
-use Prim.Native.Nat.{ℕ, ◌-◌, ◌≤◌, min}
+use Prim.Native.Nat.{ℕ, ◌≤◌, min}
 use native.Mathlib.Omega.{arith}
 use lib.ListN.{take}
 use lib.IntN.{ℤ, pos}
 use Rattle.silk.specs.State.{zeros}
 use Rattle.silk.specs.declared.structs.NsqState.{NsqState}
 use Rattle.limits.specs.Tests.{lengths_refused}
-use Rattle.refusal_rules.specs.declared.answer.Answer.{Answer}
-use Rattle.refusal_rules.specs.Code.{code_of}
+use Rattle.std.specs.Prelude.{Err}
+use Rattle.refusal_rules.specs.declared.answer.Refusal.{Refusal}
+use Rattle.refusal_rules.specs.Code.{Answer, refusal_code, code_of}
+use Rattle.refusal_rules.proofs.Matched.{code-refused}
+use borrow.Author.Tests.{ne_eqb}
 use Rattle.refusal_rules.specs.Table.{table, answer_of}
 use Rattle.refusal_rules.proofs.Accept.{lengths-good}
 use Rattle.refusal_rules.proofs.Room.{frame-within}
@@ -20,7 +23,8 @@ use Rattle.steps.specs.Entry.{Outcome, outcome_of, answered, outcome_by, outcome
 use Rattle.sheet_form.specs.Sections.{Reading, fault, sheet}
 use Rattle.sheet_form.specs.Sheets.{with_default, sheet_with, sheet_of}
 use Rattle.sheet_form.specs.declared.sheet.Sheet.{Sheet}
-use Rattle.sheet_form.specs.declared.sheet.Verdict.TheVariants as verdict
+use Rattle.sheet_form.specs.declared.fault.Fault.{Fault}
+use Rattle.std.specs.Prelude.{Ok, Err}
 use Rattle.sheet_form.proofs.Fitting.{zeros-first}
 use Rattle.sheet_print.specs.Rows.{rows_of}
 use Rattle.sheet_text.specs.Text.{line_of, answer_word, answer_text, fault_text}
@@ -33,6 +37,12 @@ pub text_of : (k : ℕ) (a : Answer) (z seed : ℤ) (state : NsqState) (out : Li
     → answer_text k z out ≡ outcome_text o
 unfolding outcome_text
 text_of k a z seed state out o e d f = rw (e, d, ← f)
+
+-- refused, the text has the number alone
+pub refused_text : (k : ℕ) (why : Refusal) (z seed : ℤ) (state : NsqState) (out : List ℤ) (o : Outcome) → k ≡ refusal_code why → outcome_of (Err why) seed state out ≡ o
+    → answer_text k z out ≡ outcome_text o
+unfolding outcome_text answer_text
+refused_text k why z seed state out o e f = rw (e, ← f, ne_eqb (refusal_code why) 0 (λ q. let h = code-refused why in omega arith))
 
 -- ---- the row that is lent for the pulses has at most 320 words
 -- lengths that are refused: the text is the same with every row
@@ -63,19 +73,19 @@ unfolding sheet_outcome pulses_for defaulted sheet_call with_default frame_lengt
 short_row rule rows = by_lengths rule (defaulted (sheet_call rows)) (samples_in rows) _ refl
 
 -- ---- a sheet that was read: its answer, or its fault
-pub page-good : (rule : Rule) (m : Reading) → (sheet_of m).verdict ≡ verdict.Good → outcome_text (sheet_outcome rule (rows_of (sheet_of m))) ≡ found_page rule m
-unfolding sheet_of sheet_with found_page
-page-good rule (sheet rows) e = ap outcome_text (held-outcome rule verdict.Good rows)
-page-good rule (fault k) e = absurd (let x : ◌≡◌ {A = ℕ} 0 1 = cc in omega arith)
+pub page-good : (rule : Rule) (m : Reading) (s : Sheet) → Ok s ≡ sheet_of m → outcome_text (sheet_outcome rule (rows_of s)) ≡ found_page rule m
+unfolding sheet_of found_page
+page-good rule (sheet rows) s e = let x : s ≡ sheet_with rows = cc in ap (λ (q : Sheet). outcome_text (sheet_outcome rule (rows_of q))) x ∙ ap outcome_text (held-outcome rule rows)
+page-good rule (fault k) s e = absurd (grind arith)
 
-pub page-fault : (rule : Rule) (m : Reading) (k : ℕ) → (sheet_of m).verdict ≡ verdict.Fault k → fault_text k ≡ found_page rule m
-unfolding sheet_of sheet_with found_page
-page-fault rule (fault j) k e = let x : k ≡ j = cc in ap fault_text x
-page-fault rule (sheet rows) k e = absurd (let x : ◌≡◌ {A = ℕ} 0 1 = cc in omega arith)
+pub page-fault : (rule : Rule) (m : Reading) (f : Fault) → Err f ≡ sheet_of m → fault_text f.number ≡ found_page rule m
+unfolding sheet_of found_page
+page-fault rule (fault k) f e = let x : f ≡ record { number = k } = cc in ap (λ (g : Fault). fault_text g.number) x
+page-fault rule (sheet rows) f e = absurd (grind arith)
 
 -- ---- the row that is lent, by the count of its words
 pub lent_row : (rule : Rule) (read : Sheet) (n : ℕ) (space : List ℤ) → n ≡ min 320 (frame_length read.settings) → space ≡ zeros 320
-    → outcome_text (outcome rule (defaulted (sheet_call (rows_of read))) (samples_in (rows_of read)) (take (n - 0) space)) ≡ outcome_text (sheet_outcome rule (rows_of read))
+    → outcome_text (outcome rule (defaulted (sheet_call (rows_of read))) (samples_in (rows_of read)) (take n space)) ≡ outcome_text (sheet_outcome rule (rows_of read))
 lent_row rule read n space e z =
-    let m : n - 0 ≡ min 320 (frame_length (settings_in (rows_of read))) = rw (held-settings read) (omega (arith, e)) in
+    let m : n ≡ min 320 (frame_length (settings_in (rows_of read))) = rw (held-settings read) (omega (arith, e)) in
     rw (m, z, zeros-first (min 320 (frame_length (settings_in (rows_of read)))) (omega arith)) (short_row rule (rows_of read))

@@ -5,11 +5,11 @@ use Rattle.silk.specs.declared.structs.Settings.{Settings}
 use Rattle.silk.specs.State.{zeros, fresh_state}
 use Rattle.settings_row.specs.Named.{settings_of}
 use Rattle.limits.specs.Count.{nat_z}
-use Rattle.refusal_rules.specs.declared.answer.Answer.{Answer}
 use Rattle.steps.specs.Among.{Rule}
 use Rattle.steps.specs.Call.{Call, call_of}
 use Rattle.steps.specs.Entry.{Outcome, answered, outcome}
 use Rattle.sheet_form.specs.Sheets.{with_default}
+use Rattle.refusal_rules.specs.Code.{Answer}
 
 -- section 1: the twelve settings
 abbrev pub settings_in : List (List ℤ) → Settings

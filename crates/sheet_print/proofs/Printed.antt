@@ -10,8 +10,9 @@ use borrow.Author.Tests.{le-leb, eq-eqb, ne_eqb, not-true}
 use lib.ListN.{length, length-append}
 use lib.Seq.{take-append_seam, drop-append_seam}
 use lib.IntN.{ℤ, pos, negsuc, nat_abs}
+use Rattle.std.specs.Prelude.{Some}
 use Rattle.fixed.specs.Iter.{either}
-use Rattle.sheet_words.specs.Number.{is, Range, got, separator, in_word, digit, run, skip, word, after_word, value, magnitude, signed, number_of, within, in_range, and_rest, number}
+use Rattle.sheet_words.specs.Number.{Range, got, separator, in_word, digit, run, skip, word, after_word, value, magnitude, signed, number_of, within, in_range, and_rest, number}
 use Rattle.sheet_words.specs.Number as form
 use Rattle.sheet_words.proofs.Values.{first-digit, digit_at}
 use Rattle.sheet_words.proofs.FirstByte.{number-of-plain}
@@ -105,13 +106,13 @@ unfolding digits
 digits-few n h = few (suc n) n 9 (omega arith) h
 
 -- ---- the number that the digits write
-magnitude-digits : (n : ℕ) → n < 10 ^ 10 → magnitude (digits n) ≡ is n
+magnitude-digits : (n : ℕ) → n < 10 ^ 10 → magnitude (digits n) ≡ Some n
 unfolding magnitude form.decimal
 magnitude-digits n h =
     let g = digits-good n in
-    rw (le-leb 1 (length (digits n)) g.some, le-leb (length (digits n)) 10 (digits-few n h), eq-eqb (run digit (digits n)) (length (digits n)) g.all) (ap is g.worth)
+    rw (le-leb 1 (length (digits n)) g.some, le-leb (length (digits n)) 10 (digits-few n h), eq-eqb (run digit (digits n)) (length (digits n)) g.all) (ap Some g.worth)
 
-pub number-decimal : (z : ℤ) → nat_abs z < 10 ^ 10 → number_of (decimal z) ≡ is z
+pub number-decimal : (z : ℤ) → nat_abs z < 10 ^ 10 → number_of (decimal z) ≡ Some z
 unfolding decimal number_of signed
 number-decimal (pos n) h =
     let g = digits-good n in
@@ -159,7 +160,7 @@ no_gap [] u h e = absurd (omega arith)
 no_gap (b ∷ s) u h e = run_none separator b (s ++ u) (not-true (separator b) (run-first in_word b s e).0)
 
 -- a printed number, where a separator or nothing follows it
-pub number-printed : (r : Range) (z : ℤ) (u : List ℕ) → nat_abs z < 10 ^ 10 → within r z ≡ is z → Ends u → number r (decimal z ++ u) ≡ got z u
+pub number-printed : (r : Range) (z : ℤ) (u : List ℕ) → nat_abs z < 10 ^ 10 → within r z ≡ Some z → Ends u → number r (decimal z ++ u) ≡ got z u
 unfolding number skip word after_word in_range and_rest
 number-printed r z u h w e =
     let n : run in_word (decimal z ++ u) ≡ length (decimal z) = run_more in_word (decimal z) u (decimal-word z) ∙ omega (arith, no_word u e) in

@@ -9,8 +9,9 @@ use lib.ListN.{length, length-append}
 use lib.Dec.{T, ltb, ltb→lt}
 use lib.IntN.{ℤ, pos, negsuc, nat_abs}
 use lib.Signed.{lt_z}
+use Rattle.std.specs.Prelude.{Some}
 use Rattle.fixed.proofs.Lin.{P, N, lt-false}
-use Rattle.sheet_words.specs.Number.{is, Range, got, separator, run, within, number}
+use Rattle.sheet_words.specs.Number.{Range, got, separator, run, within, number}
 use Rattle.sheet_form.specs.Sections.{Kind, sheet, and_then, before, numbers, section, or_fault, after, ended, sections, reading, layout, settings, row, i16, i32}
 use Rattle.sheet_text.specs.Text.{spaced, section_text, sheet_text}
 use Rattle.pages.specs.Decimal.{decimal}
@@ -46,7 +47,7 @@ inside-small : (r : Range) (z : ℤ) → Narrow r → Inside r z → nat_abs z <
 inside-small r (pos n) w i = let h = lt-false r.high (pos n) i.not-above in let b = w.high in omega arith
 inside-small r (negsuc n) w i = let l = lt-false (negsuc n) r.low i.not-below in let a = w.low in omega arith
 
-inside-within : (r : Range) (z : ℤ) → Inside r z → within r z ≡ is z
+inside-within : (r : Range) (z : ℤ) → Inside r z → within r z ≡ Some z
 unfolding within
 inside-within r z i = rw (i.not-below, i.not-above)
 

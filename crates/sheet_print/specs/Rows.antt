@@ -1,6 +1,6 @@
 -- The ten lists of numbers that a sheet holds.
 -- Assumes nothing.
-use Rattle.std.specs.Prelude.{List, [], ◌∷◌, ◌++◌, take, ℤ}
+use Rattle.std.specs.Prelude.{List, [], ◌∷◌, ◌++◌, ℤ}
 use Rattle.silk.specs.declared.structs.Settings.{Settings}
 use Rattle.sheet_form.specs.declared.sheet.Sheet.{Sheet}
 
@@ -21,24 +21,13 @@ settings_row s =
     ∷ s.LTP_scale_Q14
     ∷ []
 
--- the four rows of 16-bit words: of each the words that its count says
+-- the four rows of 16-bit words
 abbrev pub half_rows : Sheet → List (List ℤ)
-half_rows s =
-    take s.samples.count s.samples.words
-    ∷ take s.pred_coef.count s.pred_coef.words
-    ∷ take s.ltp_coef.count s.ltp_coef.words
-    ∷ take s.ar.count s.ar.words
-    ∷ []
+half_rows s = s.samples.items ∷ s.pred_coef.items ∷ s.ltp_coef.items ∷ s.ar.items ∷ []
 
 -- the five rows of 32-bit words
 abbrev pub whole_rows : Sheet → List (List ℤ)
-whole_rows s =
-    take s.harm_gains.count s.harm_gains.words
-    ∷ take s.tilts.count s.tilts.words
-    ∷ take s.lfs.count s.lfs.words
-    ∷ take s.gains.count s.gains.words
-    ∷ take s.lags.count s.lags.words
-    ∷ []
+whole_rows s = s.harm_gains.items ∷ s.tilts.items ∷ s.lfs.items ∷ s.gains.items ∷ s.lags.items ∷ []
 
 -- the ten sections
 unfoldable pub rows_of : Sheet → List (List ℤ)

@@ -6,38 +6,39 @@
 // of faults are as they were stored. tests/stored_sheets.py asked the Rust and put both files together.
 #![tactic(auto)]
 
+ghost use Rattle.std.specs.Prelude.{◌≤◌, IfSome};
+
 use fixed::wrap;
 use limits::count;
 use sheet_page::page;
 use sheet_words::words;
-use sheet_words::words::Word;
 
-// The length of the next sheet. After the last one stands none, which is read as one that is too long.
-fn next_length() -> usize {
+// The length of the next sheet, if there is one. What is no number, or too long for one, ends the list. As in `clean_replay`: a program cannot be
+// used by another.
+fn next_length() -> Option<usize>
+    ensures { IfSome result (λ n. n ≤ 65537) }
+{
     let mut head = [0u8; 7];
     io::read_full(0, &mut head);
-    match words::number_of(&head[0..6]) {
-        Word::Is(z) => count::count(wrap::low32(z)),
-        Word::Unreadable => 65538,
-    }
+    let z = words::number_of(&head[..6])?;
+    let length = count::count(wrap::low32(z));
+    if length <= 65537 { Some(length) } else { None }
 }
 
 // The next sheet, if there is one, read and answered as the program `sheet` does it.
 fn replay() {
-    let length = next_length();
-    if 65537 < length {
-        return;
+    if let Some(length) = next_length() {
+        let mut space = [0u8; 65537];
+        io::read_full(0, &mut space[..length]);
+        let mut page = [0u8; 4096];
+        let used = page::whole(&space, length, &mut page);
+        io::write_all(1, &page[..used]);
     }
-    let mut space = [0u8; 65537];
-    io::read_full(0, &mut space[0..length]);
-    let mut page = [0u8; 4096];
-    let used = page::whole(&space, length, &mut page);
-    io::write_all(1, &page[..used]);
 }
 
 // All sheets of the list, at most 512.
 fn main() {
-    for k in 0usize..512 {
+    for _ in 0..512 {
         replay();
     }
 }

@@ -1,22 +1,23 @@
 -- Lines of text, part after part. Assumes nothing.
 use mathlib.Core.Path.{◌≡◌, refl, sym, ap, ◌∙◌}
-use mathlib.Core.List.{List, [], ◌∷◌, ◌++◌}
-use Prim.Native.Nat.{ℕ, ◌+◌, ◌%◌, ◌≤◌, ◌<◌}
+use mathlib.Core.List.{List, [], ◌∷◌, ◌++◌, append_assoc, append-nil, map, map-append}
+use Prim.Native.Nat.{ℕ, suc, ◌+◌, ◌%◌, ◌<◌}
 use native.Mathlib.Omega.{arith}
-use native.Mathlib.Numerals.{add-one}
-use lib.ListN.{length, drop, get_or}
-use lib.Seq.{drop-cons, drop-length}
+use lib.ListN.{length, take, get_or}
+use lib.Seq.{length-take-le}
 use lib.IntN.{ℤ, pos}
 use borrow.Author.Tests.{eq-eqb, ne_eqb}
-use Rattle.pages.specs.Page.{Page, page, put, puts}
+use Rattle.std.proofs.lemmas.List.{take_more, length-map}
+use Rattle.pages.specs.declared.page.Page.{Page as Lent}
+use Rattle.pages.specs.Added.{Added}
 use Rattle.sheet_text.specs.Text.{line_of, spaced, section_text, sheet_text, after_pulse, pulse_lines, answer_word, seed_word, accepted_text, answer_text}
 use Rattle.pages.specs.Decimal.{decimal, digits}
-use Rattle.pages.proofs.Pages.{puts-append, puts_one}
+use Rattle.pages.proofs.Pages.{added_none, added_then}
 
 -- a word, a number, a line feed
-pub line-puts : (w : List ℕ) (z : ℤ) (p : Page) → put 10 (puts (decimal z) (puts w p)) ≡ puts (line_of w z) p
+pub line-added : {p q r t : Lent} (w : List ℕ) (z : ℤ) → Added p w q → Added q (decimal z) r → Added r (10 ∷ []) t → Added p (line_of w z) t
 unfolding line_of
-line-puts w z p = simp (puts-append, puts_one)
+line-added w z a b c = added_then (w ++ decimal z) (10 ∷ []) (added_then w (decimal z) a b) c
 
 pub digits_decimal : (n : ℕ) → digits n ≡ decimal (pos n)
 unfolding decimal
@@ -27,96 +28,67 @@ pub twentieth : (n i : ℕ) → i % 20 ≡ 19 → 10 ≡ after_pulse n i
 unfolding after_pulse
 twentieth n i e = rw (eq-eqb (i % 20) 19 e)
 
-pub last-pulse : (n i : ℕ) → (i % 20 ≡ 19 → ⊥) → i + 1 ≡ n → 10 ≡ after_pulse n i
+pub last_pulse : (n i : ℕ) → (i % 20 ≡ 19 → ⊥) → i + 1 ≡ n → 10 ≡ after_pulse n i
 unfolding after_pulse
-last-pulse n i h e = rw (ne_eqb (i % 20) 19 h, eq-eqb (i + 1) n e)
+last_pulse n i h e = rw (ne_eqb (i % 20) 19 h, eq-eqb (i + 1) n e)
 
-pub other-pulse : (n i : ℕ) → (i % 20 ≡ 19 → ⊥) → (i + 1 ≡ n → ⊥) → 32 ≡ after_pulse n i
+pub other_pulse : (n i : ℕ) → (i % 20 ≡ 19 → ⊥) → (i + 1 ≡ n → ⊥) → 32 ≡ after_pulse n i
 unfolding after_pulse
-other-pulse n i h k = rw (ne_eqb (i % 20) 19 h, ne_eqb (i + 1) n k)
+other_pulse n i h k = rw (ne_eqb (i % 20) 19 h, ne_eqb (i + 1) n k)
 
--- one pulse more
-pub pulses-more : (n i : ℕ) (zs : List ℤ) (p : Page) → i < length zs
-    → puts (pulse_lines n i (drop i zs)) p ≡ puts (pulse_lines n (i + 1) (drop (i + 1) zs)) (put (after_pulse n i) (puts (decimal (get_or zs i (pos 0))) p))
-unfolding pulse_lines puts
-pulses-more n i zs p h = rw (drop-cons zs i (pos 0) h, add-one i) (puts-append (decimal (get_or zs i (pos 0))) _ p)
+-- one number more
+pub pulses-more : (n i : ℕ) (zs : List ℤ) (z : ℤ) → pulse_lines n i (zs ++ (z ∷ [])) ≡ pulse_lines n i zs ++ (decimal z ++ (after_pulse n (i + length zs) ∷ []))
+unfolding pulse_lines
+pulses-more n i [] z = let e : i + 0 ≡ i = omega arith in rw e
+pulses-more n i (y ∷ zs) z =
+    let e : suc i + length zs ≡ i + suc (length zs) = omega arith in
+    rw (pulses-more n (suc i) zs z, e) (sym (append_assoc (decimal y) (after_pulse n i ∷ pulse_lines n (suc i) zs) _))
 
-pub pulses-done : (n i : ℕ) (zs : List ℤ) (p : Page) → i ≡ length zs → puts (pulse_lines n i (drop i zs)) p ≡ p
-unfolding pulse_lines puts
-pulses-done n i zs p e = rw (e, drop-length zs)
-
--- ---- a loop over a row of any width that has come to value i: what is left to print completes the text, on a page as long as it was
-pub record Printing (out₀ : List ℕ) (used : ℕ) (zs : List ℤ) (out : List ℕ) (m i : ℕ) : Type 0 where
-  pub up_to : i ≤ length zs
-  pub long : length out ≡ length out₀
-  pub rest : puts (pulse_lines (length zs) 0 zs) (page used out₀) ≡ puts (pulse_lines (length zs) i (drop i zs)) (page m out)
-
-pub printing-start : (out : List ℕ) (used : ℕ) (zs : List ℤ) → Printing out used zs out used 0
-printing-start out used zs = record { up_to = omega arith; long = refl; rest = refl }
-
--- one value more
-pub printing-next : {out₀ : List ℕ} {used : ℕ} {zs : List ℤ} {out : List ℕ} {m i : ℕ} (to : List ℕ) (k : ℕ)
-    → Printing out₀ used zs out m i
-    → i < length zs
-    → length to ≡ length out
-    → page k to ≡ put (after_pulse (length zs) i) (puts (decimal (get_or zs i (pos 0))) (page m out))
-    → Printing out₀ used zs to k (i + 1)
-printing-next {zs = zs} {out = out} {m = m} {i = i} to k p h l e =
-    record {
-      up_to = omega arith;
-      long = l ∙ p.long;
-      rest = p.rest ∙ pulses-more (length zs) i zs (page m out) h ∙ ap (puts (pulse_lines (length zs) (i + 1) (drop (i + 1) zs))) (sym e);
-    }
-
--- all of them
-pub printing-done : {out₀ : List ℕ} {used : ℕ} {zs : List ℤ} {out : List ℕ} {m i : ℕ} → Printing out₀ used zs out m i → i ≡ length zs
-    → page m out ≡ puts (pulse_lines (length zs) 0 zs) (page used out₀)
-printing-done {zs = zs} {out = out} {m = m} {i = i} p e = sym (p.rest ∙ pulses-done (length zs) i zs (page m out) e)
+-- .. of a row of numbers of some type
+pub row-more : {X : Type 0} (value : X → ℤ) (n i : ℕ) (xs : List X) (x : X) → i < length xs → x ≡ get_or xs i x
+    → pulse_lines n 0 (map value (take (i + 1) xs)) ≡ pulse_lines n 0 (map value (take i xs)) ++ (decimal (value x) ++ (after_pulse n i ∷ []))
+row-more value n i xs x h k =
+    let e : 0 + length (map value (take i xs)) ≡ i = omega (arith, length-map (take i xs) value, length-take-le i xs) in
+    ap (λ (s : List _). pulse_lines n 0 (map value s)) (take_more xs i x h ∙ ap (λ (y : _). take i xs ++ (y ∷ [])) (sym k))
+    ∙ ap (pulse_lines n 0) (map-append value (take i xs) (x ∷ []))
+    ∙ pulses-more n 0 (map value (take i xs)) (value x)
+    ∙ rw e
 
 -- the two answers
-pub accepted-puts : (number : ℕ) (seed : ℤ) (pulses : List ℤ) (p : Page) → number ≡ 0
-    → puts (pulse_lines (length pulses) 0 pulses) (puts (line_of seed_word seed) (puts (line_of answer_word (pos number)) p)) ≡ puts (answer_text number seed pulses) p
+pub accepted-text : (number : ℕ) (seed : ℤ) (pulses : List ℤ) → number ≡ 0
+    → (line_of answer_word (pos number) ++ line_of seed_word seed) ++ pulse_lines (length pulses) 0 pulses ≡ answer_text number seed pulses
 unfolding answer_text accepted_text
-accepted-puts number seed pulses p e = rw e (simp puts-append)
+accepted-text number seed pulses e = rw e
 
-pub refused-puts : (number : ℕ) (seed : ℤ) (pulses : List ℤ) (p : Page) → (number ≡ 0 → ⊥) → puts (line_of answer_word (pos number)) p ≡ puts (answer_text number seed pulses) p
+pub refused-text : (number : ℕ) (seed : ℤ) (pulses : List ℤ) → (number ≡ 0 → ⊥) → line_of answer_word (pos number) ≡ answer_text number seed pulses
 unfolding answer_text
-refused-puts number seed pulses p h = rw (ne_eqb number 0 h)
+refused-text number seed pulses h = rw (ne_eqb number 0 h)
 
+-- ---- a sheet, section after section
 -- one number of a section more
-pub spaced-more : (i : ℕ) (zs : List ℤ) (p : Page) → i < length zs → puts (spaced (drop i zs)) p ≡ puts (spaced (drop (i + 1) zs)) (puts (decimal (get_or zs i (pos 0))) (put 32 p))
-unfolding spaced puts
-spaced-more i zs p h = rw (drop-cons zs i (pos 0) h, add-one i) (puts-append (decimal (get_or zs i (pos 0))) _ (put 32 p))
+pub spaced-more : (zs : List ℤ) (z : ℤ) → spaced (zs ++ (z ∷ [])) ≡ spaced zs ++ (32 ∷ decimal z)
+unfolding spaced
+spaced-more [] z = ap (λ (s : List ℕ). 32 ∷ s) (append-nil (decimal z))
+spaced-more (y ∷ zs) z = ap (λ (s : List ℕ). 32 ∷ s) (ap (λ (s : List ℕ). decimal y ++ s) (spaced-more zs z) ∙ sym (append_assoc (decimal y) (spaced zs) (32 ∷ decimal z)))
 
-pub spaced-done : (i : ℕ) (zs : List ℤ) (p : Page) → i ≡ length zs → puts (spaced (drop i zs)) p ≡ p
-unfolding spaced puts
-spaced-done i zs p e = rw (e, drop-length zs)
+-- .. of a row of numbers of some type
+pub spaced-row : {X : Type 0} (value : X → ℤ) (i : ℕ) (xs : List X) (x : X) → i < length xs → x ≡ get_or xs i x
+    → spaced (map value (take (i + 1) xs)) ≡ spaced (map value (take i xs)) ++ (32 ∷ decimal (value x))
+spaced-row value i xs x h k =
+    ap (λ (s : List _). spaced (map value s)) (take_more xs i x h ∙ ap (λ (y : _). take i xs ++ (y ∷ [])) (sym k))
+    ∙ ap spaced (map-append value (take i xs) (x ∷ []))
+    ∙ spaced-more (map value (take i xs)) (value x)
 
 -- a section on its line
-pub section-puts : (zs : List ℤ) (p : Page) → put 10 (puts (spaced zs) (puts (decimal (pos (length zs))) p)) ≡ puts (section_text zs) p
+pub section-added : {p q r t : Lent} (zs : List ℤ) → Added p (decimal (pos (length zs))) q → Added q (spaced zs) r → Added r (10 ∷ []) t → Added p (section_text zs) t
 unfolding section_text
-section-puts zs p = simp (puts-append, puts_one)
+section-added zs a b c = added_then (decimal (pos (length zs)) ++ spaced zs) (10 ∷ []) (added_then (decimal (pos (length zs))) (spaced zs) a b) c
 
--- section after section
-sheet-step : (zs : List ℤ) (rows : List (List ℤ)) (p : Page) → puts (sheet_text (zs ∷ rows)) p ≡ puts (sheet_text rows) (puts (section_text zs) p)
+-- the first section, and the others
+pub sheet-added : {p q r : Lent} (zs : List ℤ) (rows : List (List ℤ)) → Added p (section_text zs) q → Added q (sheet_text rows) r → Added p (sheet_text (zs ∷ rows)) r
 unfolding sheet_text
-sheet-step zs rows p = puts-append (section_text zs) (sheet_text rows) p
+sheet-added zs rows a b = added_then (section_text zs) (sheet_text rows) a b
 
-sheet-none : (p : Page) → puts (sheet_text []) p ≡ p
-unfolding sheet_text puts
-sheet-none p = refl
-
-pub four-puts : (a b c d : List ℤ) (p : Page)
-    → puts (section_text d) (puts (section_text c) (puts (section_text b) (puts (section_text a) p))) ≡ puts (sheet_text (a ∷ b ∷ c ∷ d ∷ [])) p
-four-puts a b c d p = sym (sheet-step a _ p ∙ sheet-step b _ _ ∙ sheet-step c _ _ ∙ sheet-step d [] _ ∙ sheet-none _)
-
-pub five-puts : (a b c d e : List ℤ) (p : Page)
-    → puts (section_text e) (puts (section_text d) (puts (section_text c) (puts (section_text b) (puts (section_text a) p)))) ≡ puts (sheet_text (a ∷ b ∷ c ∷ d ∷ e ∷ [])) p
-five-puts a b c d e p = sym (sheet-step a _ p ∙ sheet-step b _ _ ∙ sheet-step c _ _ ∙ sheet-step d _ _ ∙ sheet-step e [] _ ∙ sheet-none _)
-
-pub rows-puts : (rows more : List (List ℤ)) (p : Page) → puts (sheet_text more) (puts (sheet_text rows) p) ≡ puts (sheet_text (rows ++ more)) p
-rows-puts [] more p = ap (puts (sheet_text more)) (sheet-none p)
-rows-puts (zs ∷ rows) more p = ap (puts (sheet_text more)) (sheet-step zs rows p) ∙ rows-puts rows more (puts (section_text zs) p) ∙ sym (sheet-step zs (rows ++ more) p)
-
-pub first-puts : (zs : List ℤ) (rows : List (List ℤ)) (p : Page) → puts (sheet_text rows) (puts (section_text zs) p) ≡ puts (sheet_text (zs ∷ rows)) p
-first-puts zs rows p = sym (sheet-step zs rows p)
+pub sheet-none : (p : Lent) → Added p (sheet_text []) p
+unfolding sheet_text
+sheet-none p = added_none p

@@ -1,22 +1,18 @@
 -- What a `match` on an enum tells: which variant it has. Assumes nothing.
 use mathlib.Core.Path.{◌≡◌, refl}
-use mathlib.Core.Bool.{not}
-use Prim.Native.Nat.{ℕ, ◌≤◌, ◌<◌}
+use mathlib.Core.Bool.{Bool, true, false, not, ◌&&◌}
+use Prim.Native.Nat.{ℕ}
 use native.Mathlib.Omega.{arith}
 use lib.Dec.{eqb, leb}
-use borrow.Author.Tests.{eq-eqb, ne_eqb, le-leb, lt-leb}
+use Rattle.fixed.specs.Iter.{either}
+use Rattle.std.specs.Char.{is_ascii_digit}
+use borrow.Author.Tests.{eq-eqb, ne_eqb}
 use denote.Enum.Declared.{tag_of}
 use Rattle.sheet_words.specs.Number.{separator, in_word, digit}
 use Rattle.sheet_words.specs.Words.{in_class}
 use Rattle.sheet_words.specs.declared.words.Class.{Class}
 use Rattle.sheet_words.specs.declared.words.Class.TheVariants as class
 use Rattle.sheet_words.specs.contracts.words.Class as class-type
-use Rattle.sheet_words.specs.declared.words.Magnitude.{Magnitude}
-use Rattle.sheet_words.specs.declared.words.Magnitude.TheVariants as magnitude
-use Rattle.sheet_words.specs.contracts.words.Magnitude as magnitude-type
-use Rattle.sheet_words.specs.declared.words.Word.{Word}
-use Rattle.sheet_words.specs.declared.words.Word.TheVariants as word
-use Rattle.sheet_words.specs.contracts.words.Word as word-type
 
 pub is-separator : (k : Class) (b : ℕ) → tag_of class-type.the_type k ≡ 0 → in_class k b ≡ separator b
 is-separator class.Separator b h = refl
@@ -50,18 +46,11 @@ pub in-word-32 : (b : ℕ) → b ≡ 32 → not (eqb b 32) ≡ in_word b
 unfolding in_word separator
 in-word-32 b h = rw (eq-eqb b 32 h)
 
-pub digit-57 : (b : ℕ) → 48 ≤ b → leb b 57 ≡ digit b
+-- std's digits are the definition's
+pub ascii-digit : (b : ℕ) → is_ascii_digit b ≡ digit b
 unfolding digit
-digit-57 b h = rw (le-leb 48 b h)
-
-pub digit-48 : (b : ℕ) → b < 48 → leb 48 b ≡ digit b
-unfolding digit
-digit-48 b h = rw (lt-leb 48 b h)
-
-pub no-magnitude : (m : Magnitude) → tag_of magnitude-type.the_type m ≡ 1 → m ≡ magnitude.Unreadable
-no-magnitude (magnitude.Is n) h = absurd (omega arith)
-no-magnitude magnitude.Unreadable h = refl
-
-pub no_word : (m : Word) → tag_of word-type.the_type m ≡ 1 → m ≡ word.Unreadable
-no_word (word.Is n) h = absurd (omega arith)
-no_word word.Unreadable h = refl
+ascii-digit b = by_tests (leb 48 b) (leb b 57)
+  where
+    by_tests : (x y : Bool) → (x && y) ≡ either x y false
+    by_tests true y = refl
+    by_tests false y = refl

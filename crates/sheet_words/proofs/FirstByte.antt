@@ -7,9 +7,10 @@ use native.Mathlib.Omega.{arith}
 use borrow.Author.Tests.{eq-eqb, ne_eqb}
 use lib.ListN.{length, get_or, take, drop}
 use lib.Seq.{take_all}
-use Rattle.sheet_words.specs.Number.{unreadable, magnitude, signed, number_of}
+use Rattle.std.specs.Prelude.{None}
+use Rattle.sheet_words.specs.Number.{magnitude, signed, number_of}
 
-pub number-of-none : (w : List ℕ) → length w ≡ 0 → unreadable ≡ number_of w
+pub number-of-none : (w : List ℕ) → length w ≡ 0 → None ≡ number_of w
 unfolding number_of
 number-of-none [] h = refl
 number-of-none (b ∷ w) h = absurd (omega arith)

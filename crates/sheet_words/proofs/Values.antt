@@ -7,12 +7,12 @@ use native.Mathlib.Omega.{arith}
 use native.Mathlib.Numerals.{add-one}
 use native.Mathlib.Nat.{pow-le-pow_right, pow-succ', mul_assoc, lt_of_lt_of_le, le_trans, le_of_eq, mul-le-mul_right}
 use borrow.Author.Tests.{leb-true, eqb-true, le-leb, lt-leb}
-use lib.Dec.{lit<}
+use lib.Dec.{lit<, eqb}
 use lib.ListN.{length, drop, get_or}
 use lib.Seq.{drop-cons, drop-length}
 use Rattle.fixed.specs.Iter.{either}
-use Rattle.sheet_words.specs.Number.{run, digit, value, decimal, magnitude, is, unreadable}
-use Rattle.sheet_words.specs.Words.{Small}
+use Rattle.sheet_words.specs.Number.{run, digit, value, decimal, magnitude}
+use Rattle.std.specs.Prelude.{Some, None}
 
 -- all bytes are digits
 pub record Decimal (ds : List ℕ) : Type 0 where
@@ -85,16 +85,24 @@ value-below (d ∷ ds) v e =
 pub value-small : (ds : List ℕ) → Decimal ds → value 0 ds < 10 ^ 10
 value-small ds d = let p : 10 ^ length ds ≤ 10 ^ 10 = pow-le-pow_right (lit< tt) d.few in omega (arith, value-below ds 0 d.all)
 
-small-either : (b : Bool) (v : ℕ) → (b ≡ true → v < 10 ^ 10) → Small (either b (is v) unreadable)
-small-either true v h = h refl
-small-either false v h = tt
+-- of 1 to 10 bytes the run of digits decides; fewer or more can't be read
+pub all_read : (ds : List ℕ) (n : ℕ) → 1 ≤ length ds → length ds ≤ 10 → n ≡ run digit ds → eqb n (length ds) ≡ decimal ds
+unfolding decimal
+all_read ds n l h e = rw (e, le-leb 1 (length ds) l, le-leb (length ds) 10 h)
 
--- what can be read as digits is small
-pub magnitude-small : (ds : List ℕ) → Small (magnitude ds)
-unfolding magnitude
-magnitude-small ds = small-either (decimal ds) (value 0 ds) (λ e. value-small ds (decimal-is ds e))
+pub too_few : (ds : List ℕ) → length ds < 1 → false ≡ decimal ds
+unfolding decimal
+too_few ds h = rw (lt-leb 1 (length ds) h)
 
--- more than 10 digits can't be read
-pub too_many : (ds : List ℕ) → 10 < length ds → unreadable ≡ magnitude ds
-unfolding magnitude decimal
+pub too_many : (ds : List ℕ) → 10 < length ds → false ≡ decimal ds
+unfolding decimal
 too_many ds h = rw (le-leb 1 (length ds) (omega arith), lt-leb (length ds) 10 h)
+
+-- the value of digits that can be read is small
+pub magnitude-small : (ds : List ℕ) (n : ℕ) → magnitude ds ≡ Some n → n < 10 ^ 10
+unfolding magnitude
+magnitude-small ds n e = by_test (decimal ds) refl e
+  where
+    by_test : (b : Bool) → decimal ds ≡ b → either b (Some (value 0 ds)) None ≡ Some n → n < 10 ^ 10
+    by_test true d f = let v = value-small ds (decimal-is ds d) in let same : value 0 ds ≡ n = grind arith in omega arith
+    by_test false d f = absurd (grind arith)

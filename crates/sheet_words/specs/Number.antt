@@ -1,6 +1,6 @@
 -- The words and the numbers of a call sheet: docs/RULES.md, "The call sheet". A sheet is a list of bytes.
 -- Assumes nothing.
-use Rattle.std.specs.Prelude.{ℕ, suc, ◌-◌, ◌+◌, ◌*◌, Bool, true, false, not, List, [], ◌∷◌, length, take, drop, ℤ, pos, neg_ℤ, leb, eqb}
+use Rattle.std.specs.Prelude.{ℕ, suc, ◌-◌, ◌+◌, ◌*◌, Bool, true, false, not, List, [], ◌∷◌, length, take, drop, ℤ, pos, neg_ℤ, leb, eqb, Option, Some, None}
 use Rattle.std.specs.Int.Signed.{lt_z}
 use Rattle.fixed.specs.Iter.{either}
 
@@ -34,12 +34,7 @@ word s = take (run in_word s) s
 unfoldable pub after_word : List ℕ → List ℕ
 after_word s = drop (run in_word s) s
 
--- ---- numbers
--- what can be read, or that it can't be read
-pub data Maybe (A : Type 0) : Type 0 where
-  is : A → Maybe A
-  unreadable : Maybe A
-
+-- ---- numbers. `None` is a number that can't be read
 -- the value of digits, the highest first, with v for those before them
 unfoldable pub value : ℕ → List ℕ → ℕ
 value v [] = v
@@ -50,17 +45,17 @@ unfoldable pub decimal : List ℕ → Bool
 decimal ds = either (leb 1 (length ds)) (either (leb (length ds) 10) (eqb (run digit ds) (length ds)) false) false
 
 -- the value of 1 to 10 digits
-unfoldable pub magnitude : List ℕ → Maybe ℕ
-magnitude ds = either (decimal ds) (is (value 0 ds)) unreadable
+unfoldable pub magnitude : List ℕ → Option ℕ
+magnitude ds = either (decimal ds) (Some (value 0 ds)) None
 
 -- m, with or without a minus before it
-unfoldable pub signed : Bool → Maybe ℕ → Maybe ℤ
-signed minus (is m) = is (either minus (neg_ℤ (pos m)) (pos m))
-signed minus unreadable = unreadable
+unfoldable pub signed : Bool → Option ℕ → Option ℤ
+signed minus (Some m) = Some (either minus (neg_ℤ (pos m)) (pos m))
+signed minus None = None
 
 -- an optional minus (byte 45) and 1 to 10 digits: leading zeros and `-0` are numbers
-unfoldable pub number_of : List ℕ → Maybe ℤ
-number_of [] = unreadable
+unfoldable pub number_of : List ℕ → Option ℤ
+number_of [] = None
 number_of (b ∷ ds) = either (eqb b 45) (signed true (magnitude ds)) (signed false (magnitude (b ∷ ds)))
 
 -- from `low` to `high`, ends included
@@ -69,13 +64,13 @@ pub record Range : Type 0 where
   pub high : ℤ
 
 -- a number that is not below the range and not above it
-unfoldable pub within : Range → ℤ → Maybe ℤ
-within r z = either (lt_z z r.low) unreadable (either (lt_z r.high z) unreadable (is z))
+unfoldable pub within : Range → ℤ → Option ℤ
+within r z = either (lt_z z r.low) None (either (lt_z r.high z) None (Some z))
 
 -- a word as a number of the range
-unfoldable pub in_range : Range → Maybe ℤ → Maybe ℤ
-in_range r (is z) = within r z
-in_range r unreadable = unreadable
+unfoldable pub in_range : Range → Option ℤ → Option ℤ
+in_range r (Some z) = within r z
+in_range r None = None
 
 -- what is read from the front of a sheet, and the bytes after it; or that it can't be read
 pub data Read (A : Type 0) : Type 0 where
@@ -83,9 +78,9 @@ pub data Read (A : Type 0) : Type 0 where
   bad : Read A
 
 -- .. with these bytes after it
-unfoldable pub and_rest : {A : Type 0} → Maybe A → List ℕ → Read A
-and_rest (is a) s = got a s
-and_rest unreadable s = bad
+unfoldable pub and_rest : {A : Type 0} → Option A → List ℕ → Read A
+and_rest (Some a) s = got a s
+and_rest None s = bad
 
 -- the next word as a number of the range. Where only separators are left the word is empty, which is no number
 unfoldable pub number : Range → List ℕ → Read ℤ

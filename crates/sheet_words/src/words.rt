@@ -1,7 +1,7 @@
 // The words of a sheet, and the numbers that they write.
 ghost use Rattle.std.specs.Prelude.{◌≡◌, true, ◌+◌, drop};
 ghost use Rattle.sheet_words.specs.Number.{run, decimal, value as value_n, magnitude, signed as signed_z, number_of};
-ghost use Rattle.sheet_words.specs.Words.{in_class, Small, magnitude_found, word_found};
+ghost use Rattle.sheet_words.specs.Words.{in_class};
 
 // The sorts of bytes that a run is made of.
 #[derive(Clone, Copy)]
@@ -11,42 +11,48 @@ pub enum Class {
     Digit,
 }
 
-// The value of the digits of a word.
-#[derive(Clone, Copy)]
-pub enum Magnitude {
-    Is(u64),
-    Unreadable,
-}
-
-// The number that a word writes.
-#[derive(Clone, Copy)]
-pub enum Word {
-    Is(i64),
-    Unreadable,
-}
-
 fn in_class(class: Class, b: u8) -> bool
     ensures { result ≡ in_class class b }
 {
     match class {
-        Class::Separator => b == 32 || b == 10,
-        Class::InWord => b != 32 && b != 10,
-        Class::Digit => 48 <= b && b <= 57,
+        Class::Separator => b == b' ' || b == b'\n',
+        Class::InWord => b != b' ' && b != b'\n',
+        Class::Digit => b.is_ascii_digit(),
     }
+}
+
+// How many bytes the text begins with that are of the class. Over `position` it stayed open what its closure answers.
+fn run_length(text: &[u8], class: Class) -> usize
+    ensures { result ≡ run (in_class class) text.now }
+{
+    for (n, b) in text.iter().enumerate() {
+        if !in_class(class, *b) {
+            return n;
+        }
+    }
+    text.len()
 }
 
 // The first place at or after `from` whose byte is not of the class, or the end of the text.
 pub fn end_of_run(text: &[u8], from: usize, class: Class) -> usize
     ensures { result ≡ from + run (in_class class) (drop from text.now) }
 {
-    let mut at = from;
-    while at < text.len() {
-        if !in_class(class, text[at]) {
-            return at;
-        }
-        at += 1;
+    if text.len() <= from {
+        from
+    } else {
+        from + run_length(&text[from..], class)
     }
-    at
+}
+
+// 1 to 10 bytes, all of them digits.
+#[tactic(auto, using(crate::proofs::Values::all_read, crate::proofs::Values::too_few, crate::proofs::Values::too_many))]
+fn is_decimal(digits: &[u8]) -> bool
+    ensures { result ≡ decimal digits.now }
+{
+    match digits.len() {
+        n @ 1..=10 => run_length(digits, Class::Digit) == n,
+        _ => false,
+    }
 }
 
 // The value of 1 to 10 digits.
@@ -54,57 +60,41 @@ fn value(digits: &[u8]) -> u64
     requires { decimal digits.now ≡ true }
     ensures { result ≡ value_n 0 digits.now }
 {
-    let mut sum = 0u64;
-    for i in 0..digits.len() {
-        sum = sum * 10 + (digits[i] - 48) as u64;
+    let mut sum = 0;
+    for b in digits {
+        sum = sum * 10 + u64::from(*b - b'0');
     }
     sum
 }
 
-#[tactic(auto, using(crate::proofs::Values::too_many))]
-fn magnitude_of(digits: &[u8]) -> Magnitude
-    ensures { magnitude_found result ≡ magnitude digits.now }
+#[tactic(auto, unfolding(crate::specs::Number::magnitude))]
+fn magnitude_of(digits: &[u8]) -> Option<u64>
+    ensures { result ≡ magnitude digits.now }
 {
-    let n = digits.len();
-    if n < 1 {
-        return Magnitude::Unreadable;
+    if is_decimal(digits) {
+        Some(value(digits))
+    } else {
+        None
     }
-    if 10 < n {
-        return Magnitude::Unreadable;
-    }
-    if end_of_run(digits, 0, Class::Digit) != n {
-        return Magnitude::Unreadable;
-    }
-    Magnitude::Is(value(digits))
 }
 
-// The number with that value, and with a minus or without.
-fn signed(minus: bool, m: Magnitude) -> Word
-    requires { Small (magnitude_found m) }
-    ensures { word_found result ≡ signed_z minus (magnitude_found m) }
+// The number of these digits, with a minus before them or without.
+fn signed(minus: bool, digits: &[u8]) -> Option<i64>
+    ensures { result ≡ signed_z minus (magnitude digits.now) }
 {
-    match m {
-        Magnitude::Is(n) => {
-            if minus {
-                Word::Is(-(n as i64))
-            } else {
-                Word::Is(n as i64)
-            }
-        }
-        Magnitude::Unreadable => Word::Unreadable,
-    }
+    let n = magnitude_of(digits)? as i64;
+    Some(if minus { -n } else { n })
 }
 
 // The number of a word: an optional minus and 1 to 10 digits.
-pub fn number_of(word: &[u8]) -> Word
-    ensures { word_found result ≡ number_of word.now }
+pub fn number_of(word: &[u8]) -> Option<i64>
+    ensures { result ≡ number_of word.now }
 {
-    if word.len() == 0 {
-        return Word::Unreadable;
-    }
-    if word[0] == 45 {
-        signed(true, magnitude_of(&word[1..]))
+    if word.is_empty() {
+        None
+    } else if word[0] == b'-' {
+        signed(true, &word[1..])
     } else {
-        signed(false, magnitude_of(word))
+        signed(false, word)
     }
 }

@@ -35,9 +35,5 @@ pub fn or32(a: i32, b: i32) -> i32
 pub fn clz32(x: i32) -> u32
     ensures { result ≡ clz32_z x }
 {
-    if x < 0 {
-        0
-    } else {
-        u32::leading_zeros(x as u32)
-    }
+    x.leading_zeros()
 }

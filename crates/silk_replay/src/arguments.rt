@@ -8,7 +8,7 @@ use shifts::{range, shift};
 fn positive(x: i32) -> i32
     ensures { pos 1 ≤ℤ result }
 {
-    if x > 1 { x } else { 1 }
+    x.max(1)
 }
 
 // 2^k, with up to 2 less or more; from k = 31 also the largest number and its neighbour.

@@ -7,8 +7,7 @@ use mathlib.Core.List.{List}
 use lib.IntN.{ℤ}
 use borrow.Author.Tests.{ne_eqb}
 use Rattle.steps.specs.Among.{Rule}
-use Rattle.refusal_rules.specs.declared.answer.Answer.{Answer}
-use Rattle.refusal_rules.specs.Code.{code_of}
+use Rattle.refusal_rules.specs.Code.{Answer, code_of}
 use Rattle.refusal_rules.specs.Good.{Good}
 use Rattle.refusal_rules.proofs.Accept.{good}
 use Rattle.refusal_rules.proofs.Matched.{code-accepted}

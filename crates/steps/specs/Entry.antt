@@ -1,15 +1,16 @@
 -- A call, refused or accepted: docs/RULES.md, demands 1 and 2. Whatever a call is given, `outcome` is what comes of it: its answer, the seed, the
 -- state and the pulses, each word of them. Assumes nothing.
-use Rattle.std.specs.Prelude.{List, ℤ, eqb}
+use Rattle.std.specs.Prelude.{List, ℤ, pos, eqb, Result, Ok, Err}
 use Rattle.fixed.specs.Iter.{either}
 use Rattle.silk.specs.declared.structs.NsqState.{NsqState}
 use Rattle.steps.specs.Among.{Rule}
-use Rattle.refusal_rules.specs.declared.answer.Answer.{Answer}
-use Rattle.refusal_rules.specs.Code.{code_of}
+use Rattle.refusal_rules.specs.declared.answer.Refusal.{Refusal}
+use Rattle.refusal_rules.specs.Code.{Answer, Accepted, code_of}
 use Rattle.refusal_rules.specs.Table.{answer_of}
 use Rattle.steps.specs.Call.{Call}
 use Rattle.steps.specs.Sizes.{sizes_of}
 use Rattle.steps.specs.Frame.{Done, frame}
+use Rattle.steps.specs.declared.structs.Coded.{Coded}
 
 -- what comes of a call
 pub record Outcome : Type 0 where
@@ -42,3 +43,18 @@ outcome_by rule c x out a = either (eqb (code_of a) 0) (taken a (frame rule c x 
 -- the outcome of a call
 unfoldable pub outcome : Rule → Call → List ℤ → List ℤ → Outcome
 outcome rule c x out = outcome_by rule c x out (answered c x out)
+
+-- ---- what the code hands back of a call
+-- accepted, its seed, its state and its report; refused, why
+abbrev pub Answered : Type 0
+Answered = Result Coded Refusal
+
+-- what comes of a call with this seed and this state, by what it hands back: refused, they are as they were
+abbrev pub handed : ℤ → NsqState → Answered → List ℤ → Outcome
+handed seed state (Ok c) out = outcome_of Accepted c.seed c.state out
+handed seed state (Err why) out = outcome_of (Err why) seed state out
+
+-- its report; refused, 0
+abbrev pub reported : Answered → ℤ
+reported (Ok c) = c.report
+reported (Err why) = pos 0

@@ -5,8 +5,7 @@ use Rattle.fixed.specs.Iter.{iter, either}
 use Rattle.fixed.specs.Row.{word}
 use Rattle.limits.specs.Count.{same_z}
 use Rattle.path.specs.declared.structs.Path.{Path}
-use Rattle.refusal_rules.specs.declared.answer.Answer.{Answer}
-use Rattle.refusal_rules.specs.Code.{code_of}
+use Rattle.refusal_rules.specs.Code.{Answer, code_of}
 use Rattle.steps.specs.declared.structs.Given.{Given}
 use Rattle.steps.specs.Among.{Rule}
 use Rattle.steps.specs.Flush.{best_of}

@@ -2,7 +2,7 @@
 use Rattle.std.specs.Prelude.{ℕ, List, ℤ}
 use Rattle.path.specs.declared.structs.Candidate.{Candidate}
 use Rattle.path.specs.declared.structs.Sampled.{Sampled}
-use Rattle.path.specs.Data.{Paths, paths, ring_q, ring_xq, ring_pred, ring_shape, ring_at}
+use Rattle.path.specs.Data.{Paths, ring_q, ring_xq, ring_pred, ring_shape, ring_at}
 use Rattle.steps.specs.Among.{swap_of, Rule, replaced, moved_over}
 use Rattle.penalty.specs.Penalty.{penalised}
 use Rattle.winner.specs.Winner.{least_of}
@@ -16,10 +16,9 @@ pub record Settled : Type 0 where
   pub Pred_Q15 : ℤ
   pub Shape_Q14 : ℤ
 
--- the code's struct with the rows beside it
-abbrev pub settled_of : Sampled → List (List ℤ) → List (List (List ℤ)) → Settled
-settled_of s lpcs rings =
-    record { ps = paths s.ps lpcs rings; Q_Q10 = s.Q_Q10; Xq_Q14 = s.Xq_Q14; Pred_Q15 = s.Pred_Q15; Shape_Q14 = s.Shape_Q14 }
+-- the code's struct with the paths beside it
+abbrev pub settled_of : Sampled → Paths → Settled
+settled_of s p = record { ps = p; Q_Q10 = s.Q_Q10; Xq_Q14 = s.Xq_Q14; Pred_Q15 = s.Pred_Q15; Shape_Q14 = s.Shape_Q14 }
 
 -- the winner w's words at the place `last` leave, before every path takes its first candidate of c
 unfoldable pub leaving : List (List Candidate) → ℕ → ℕ → ℕ → ℕ → ℕ → Paths → Settled

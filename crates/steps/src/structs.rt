@@ -1,6 +1,5 @@
-// What the definition is spoken over beside a path's own words: the settings of a call as counts, what comes before a subframe, and an
-// answer.
-use refusal_rules::answer::Answer;
+// What the definition is spoken over beside a path's own words: the settings of a call as counts, what comes before a subframe, and what
+// a call hands back.
 use silk::structs::NsqState;
 
 // The settings of an accepted call, turned once into counts, and what they decide for the whole frame.
@@ -23,7 +22,8 @@ pub struct Given {
     pub delay: usize,
 }
 
-// What comes before a subframe's samples.
+// What comes before a subframe's samples. Flags beside their values, not `Option`s: the definition `prior_by` is this record, and theorems of
+// `full_copy` read its flags.
 #[derive(Clone, Copy)]
 pub struct Prior {
     // whether it is the second one to be rewhitened, and the gain of the flush
@@ -34,12 +34,25 @@ pub struct Prior {
     pub inv: i32,
 }
 
-// What a call hands back beside its pulses.
+// The rows that a call lends to be read.
 #[derive(Clone, Copy)]
-pub struct Answered {
-    pub answer: Answer,
+pub struct Inputs<'a> {
+    pub x: &'a [i16],
+    pub pred: &'a [i16],
+    pub long: &'a [i16],
+    pub ar: &'a [i16],
+    pub tilt: &'a [i32],
+    pub harm: &'a [i32],
+    pub lf: &'a [i32],
+    pub gains: &'a [i32],
+    pub lags: &'a [i32],
+}
+
+// What an accepted call hands back beside its pulses.
+#[derive(Clone, Copy)]
+pub struct Coded {
     pub seed: i32,
     pub state: NsqState,
-    // at how many places the pulses differ from those that the final winner chose itself; refused: 0
+    // at how many places the pulses differ from those that the final winner chose itself
     pub report: i32,
 }

@@ -15,11 +15,13 @@ mod subframe;
 mod words;
 
 use seeds::generator;
+use std::io;
 
-fn main() {
-    let mut seed: i32 = 1;
+fn main(rt: HostRuntime) -> io::Result<()> {
+    let mut seed = 1;
     for c in 0..384 {
         seed = generator::rand(seed);
-        subframe::replay(c, seed);
+        subframe::replay(&rt, c, seed)?;
     }
+    Ok(())
 }

@@ -25,18 +25,11 @@ pub fn half_shift(c: usize) -> u32 {
     HALF_SHIFTS[c / 96 % 4]
 }
 
-// x, or 1 where it is below.
-fn at_least_one(x: i32) -> i32
-    ensures { pos 1 ≤ℤ result }
-{
-    if x > 1 { x } else { 1 }
-}
-
 pub fn gain(c: usize) -> i32
     requires { c < 384 }
     ensures { pos 1 ≤ℤ result }
 {
-    at_least_one(GAINS[c * 3 % 8])
+    GAINS[c * 3 % 8].max(1)
 }
 
 // The gain before it, at times the same.
@@ -44,12 +37,13 @@ pub fn previous_gain(c: usize) -> i32
     requires { c < 384 }
     ensures { pos 1 ≤ℤ result }
 {
-    at_least_one(GAINS[(c * 3 + c / 8) % 8])
+    GAINS[(c * 3 + c / 8) % 8].max(1)
 }
 
 // The subframe's number in its frame.
 pub fn number(c: usize) -> usize
     requires { c < 384 }
+    ensures { result < 4 }
 {
     c * 5 / 3 % 4
 }
@@ -69,16 +63,12 @@ pub fn rewhitened(c: usize) -> bool
     voiced(c) && number(c) % 2 == 0
 }
 
-fn times(k: usize, l: usize) -> usize
-    requires { l ≤ 80 }
+// Where the subframe starts in the frame, at l samples each.
+fn base(c: usize, l: usize) -> usize
+    requires { (c < 384) × (l ≤ 80) }
     ensures { result ≤ 240 }
 {
-    match k {
-        0 => 0,
-        1 => l,
-        2 => 2 * l,
-        _ => 3 * l,
-    }
+    number(c) * l
 }
 
 // From 2 L / 5 to 18 L / 5; or none.
@@ -104,13 +94,7 @@ fn delay(c: usize, lag: usize) -> usize
     if !voiced(c) {
         return 13 + c % 28;
     }
-    if lag < 3 {
-        0
-    } else if lag < 43 {
-        lag - 3
-    } else {
-        40
-    }
+    lag.saturating_sub(3).min(40)
 }
 
 // Subframe 0, and others too, so that the words that the work row keeps unscaled can be seen.
@@ -139,7 +123,7 @@ pub fn fix(c: usize, seed: i32, inv_gain_Q26: i32) -> Fix
     requires { c < 384 }
 {
     let l = 40 + 20 * (c / 4 % 3);
-    let base = times(number(c), l);
+    let base = base(c, l);
     let lag = lag(c);
     Fix {
         subfr_length: l,
@@ -149,12 +133,12 @@ pub fn fix(c: usize, seed: i32, inv_gain_Q26: i32) -> Fix
         voiced: voiced(c),
         offset_Q10: OFFSETS[c % 4],
         Lambda_Q10: setting(c, seed, 14),
-        lag: lag,
+        lag,
         LF_shp_Q14: setting(c, seed, 15),
         Gain_Q16: gain(c),
-        inv_gain_Q26: inv_gain_Q26,
+        inv_gain_Q26,
         decisionDelay: delay(c, lag),
-        base: base,
+        base,
         buf: buf(c, l, base),
         first: first(c),
     }

@@ -15,62 +15,45 @@ pub fn lag_of(g: Given, lags: &[i32], k: usize) -> usize
 {
     if g.voiced {
         let lag = lags[k];
-        return count::count(lag);
+        count::count(lag)
+    } else {
+        g.lagPrev
     }
-    g.lagPrev
 }
 
 // Whether the frame's second half is rewhitened too.
 fn twice(g: Given) -> bool
     ensures { result ≡ twice_by g }
 {
-    if g.voiced {
-        return g.interpolated;
-    }
-    false
+    g.voiced && g.interpolated
 }
 
 // Whether subframe k is the second one to be rewhitened, with the flush before it.
 pub fn second(g: Given, k: usize) -> bool
     ensures { result ≡ second_by g k }
 {
-    if twice(g) {
-        return k == 2;
-    }
-    false
+    twice(g) && k == 2
 }
 
 // Whether subframe k is rewhitened.
 pub fn rewhites(g: Given, k: usize) -> bool
     ensures { result ≡ rewhites_by g k }
 {
-    if k == 0 {
-        return g.voiced;
-    }
-    second(g, k)
+    if k == 0 { g.voiced } else { second(g, k) }
 }
 
 // Subframes since output was last held back: the Rust's `subfr`.
 pub fn since(g: Given, k: usize) -> usize
     ensures { result ≡ since_by g k }
 {
-    if k < 2 {
-        return k;
-    }
-    if twice(g) {
-        return k - 2;
-    }
-    k
+    if twice(g) && 2 <= k { k - 2 } else { k }
 }
 
 // Which row of prediction coefficients.
 pub fn row_of(g: Given, k: usize) -> usize
     ensures { result ≡ row_by g k }
 {
-    if g.interpolated {
-        return k / 2;
-    }
-    1
+    if g.interpolated { k / 2 } else { 1 }
 }
 
 // The scalars of subframe k.
@@ -91,7 +74,7 @@ pub fn fix_of(g: Given, lags: &[i32], lf: &[i32], gains: &[i32], k: usize) -> Fi
         voiced: g.voiced,
         offset_Q10: g.offset_Q10,
         Lambda_Q10: g.Lambda_Q10,
-        lag: lag,
+        lag,
         LF_shp_Q14: shp,
         Gain_Q16: gain,
         inv_gain_Q26: inv26,
@@ -122,7 +105,8 @@ pub fn white_gain(g: Given, gain: i32, k: usize) -> i32
 {
     let inv31 = gains::inv_gain_Q31(gain);
     if k == 0 {
-        return gains::ltp_scaled_inv_gain(inv31, g.LTP_scale_Q14);
+        gains::ltp_scaled_inv_gain(inv31, g.LTP_scale_Q14)
+    } else {
+        inv31
     }
-    inv31
 }

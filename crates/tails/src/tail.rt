@@ -7,21 +7,15 @@ pub fn moved_down16(row: &mut [i16; 640], s: usize, m: usize)
     requires { s + m ≤ 640 }
     ensures { row.new ≡ moved_down s m row.old }
 {
-    for j in 0..m {
-        let v = row[s + j];
-        row[j] = v;
-    }
+    row.copy_within(s..s + m, 0);
 }
 
-// m shaping words move down by s.
+// m shaping words move down by s. Two names, one for each width: `moved_down` is of numbers, not of any T, and a body is one call already.
 pub fn moved_down32(row: &mut [i32; 640], s: usize, m: usize)
     requires { s + m ≤ 640 }
     ensures { row.new ≡ moved_down s m row.old }
 {
-    for j in 0..m {
-        let v = row[s + j];
-        row[j] = v;
-    }
+    row.copy_within(s..s + m, 0);
 }
 
 // A row whose first 16 words become those of another from a on.
@@ -30,9 +24,6 @@ pub fn words_from(row: [i32; 96], from: [i32; 96], a: usize) -> [i32; 96]
     ensures { result ≡ words_from from a 16 row }
 {
     let mut words = row;
-    for j in 0..16 {
-        let w = from[a + j];
-        words[j] = w;
-    }
+    words[..16].copy_from_slice(&from[a..a + 16]);
     words
 }

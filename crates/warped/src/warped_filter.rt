@@ -15,14 +15,13 @@ pub fn warped_filter(s: &mut [i32; 24], ar: &[i16], order: usize, warping: i16, 
 {
     let mut n = start::half_order(order);
     let mut tmp = product::smlawb(diff, s[0], warping);
-    let mut j: usize = 0;
-    while j + 1 < order {
+    let last = order - 1;
+    for j in 0..last {
         let next = product::smlawb(s[j], wrap::sub32(s[j + 1], tmp), warping);
         s[j] = tmp;
         n = product::smlawb(n, tmp, ar[j]);
         tmp = next;
-        j += 1;
     }
-    s[j] = tmp;
-    product::smlawb(n, tmp, ar[j])
+    s[last] = tmp;
+    product::smlawb(n, tmp, ar[last])
 }

@@ -11,14 +11,14 @@ use lib.IntN.{ℤ}
 use lib.Dec.{eqb, eqb-suc-zero}
 use borrow.Author.Tests.{eqb-true, eqb-false}
 use Rattle.fixed.specs.Iter.{either}
-use Rattle.wav_file.specs.declared.find.Found.{Found}
+use Rattle.wav_file.specs.Find.{Outcome}
 use Rattle.wav_file.specs.Fill.{Filled, filling}
 use Rattle.wav_file.proofs.Rows.{alike, unlike}
 use Rattle.wav_file.specs.Find.{applies, answer_of, accepted, refused, found}
 use Rattle.fixed.proofs.Iters.{either-all}
 use Rattle.fixed.proofs.Lowest.{exactly-lowest, exactly-none}
 
-either_number : (a : ℕ) (x y : Found) → x.answer ≡ 0 → y.answer ≡ a → (either (eqb a 0) x y).answer ≡ a
+either_number : (a : ℕ) (x y : Outcome) → x.answer ≡ 0 → y.answer ≡ a → (either (eqb a 0) x y).answer ≡ a
 either_number zero x y e f = e
 either_number (suc a) x y e f = rw (eqb-suc-zero a) f
 

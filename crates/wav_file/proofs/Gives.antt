@@ -1,8 +1,9 @@
 -- Which answer is given, by the tests in the order of the numbers. Assumes nothing.
-use Prim.Native.Nat.{ℕ, ◌+◌, ◌%◌, ◌≤◌, ◌<◌}
+use Prim.Native.Nat.{ℕ, zero, suc, ◌+◌, ◌%◌, ◌≤◌, ◌<◌}
 use native.Mathlib.Omega.{arith}
-use mathlib.Core.Path.{◌≡◌, refl, sym, ap, ◌∙◌}
+use mathlib.Core.Path.{◌≡◌, refl, ap}
 use mathlib.Core.Bool.{Bool, true, false, not, ◌&&◌}
+use mathlib.Core.Logic.{◌⊎◌, inl, inr, ⊎_elim}
 use mathlib.Core.List.{List}
 use lib.ListN.{length, get_or-eq_default}
 use lib.Dec.{eqb}
@@ -11,11 +12,20 @@ use Rattle.fixed.specs.Iter.{either}
 use Rattle.wav_file.specs.Bytes.{byte, named}
 use Rattle.wav_file.specs.Riff.{size_at, is_format, is_data, chunks, first}
 use Rattle.wav_file.specs.Find.{format_at, data_at, other_sound, too_long, not_wave, runs_past, no_format, other_format, no_data, odd_data, table, answer_of, accepted, refused, found}
-use Rattle.wav_file.specs.Marks.{marks_of, format_answer, data_answer}
+use Rattle.std.specs.Prelude.{Some, None, Ok, Err}
+use Rattle.wav_file.specs.declared.refusal.Refusal.{Refusal}
+use Rattle.wav_file.specs.declared.refusal.Refusal.TheVariants.{RunsPast, NoFormat, OtherFormat, NoData, OddData}
+use Rattle.wav_file.specs.Number.{number}
+use Rattle.wav_file.specs.Marks.{place, marks_of, format_answer, data_answer}
 use Rattle.wav_file.specs.declared.chunks.Marks.{Marks}
-use Rattle.wav_file.proofs.Firsts.{clash, first-hit}
+use Rattle.wav_file.proofs.Firsts.{first-hit}
 use Rattle.wav_file.proofs.Part.{all_whole, format-is, data_is}
 use Rattle.wav_file.proofs.Going.{whole_le}
+
+-- four tests, two by two
+pub two-and-two : (a b c d : Bool) → (a && b) && (c && d) ≡ a && (b && (c && d))
+two-and-two true b c d = refl
+two-and-two false b c d = refl
 
 -- ---- 1 and 2
 is-long : (f : List ℕ) → 65536 < length f → too_long f ≡ true
@@ -46,27 +56,40 @@ too_short f h = rw (get_or-eq_default f 0 {n = 11} (omega arith)) (turn (named f
     turn true false c d = refl
     turn false b c d = refl
 
+-- ---- a place that the walk hands on
+-- there is none
+pub no_place : (n : ℕ) → None ≡ place n → n ≡ 0
+no_place zero h = refl
+no_place (suc n) h = absurd cc
+
+-- there is one
+pub at_place : (at n : ℕ) → Some at ≡ place n → (at ≡ n) × (n ≡ 0 → ⊥)
+at_place at zero h = absurd cc
+at_place at (suc n) h = (cc, λ e. omega arith)
+
 -- ---- 3 to 7, by what the walk hands on
 pub record Marked (f : List ℕ) (m : Marks) : Type 0 where
   pub no3 : runs_past f ≡ false
-  pub format : m.format ≡ format_at f
-  pub body : m.body ≡ data_at f
+  pub format : m.format ≡ place (format_at f)
+  pub body : m.body ≡ place (data_at f)
 
-pub marked : (f : List ℕ) (m : Marks) → m ≡ marks_of f → m.past ≡ false → Marked f m
+pub marked : (f : List ℕ) (m : Marks) → Ok m ≡ marks_of f → Marked f m
 unfolding marks_of
-marked f m e p = turn (runs_past f) refl e
+marked f m e = turn (runs_past f) refl e
   where
-    turn : (b : Bool) → runs_past f ≡ b → m ≡ either b (record { past = true; format = 0; body = 0 }) (record { past = false; format = format_at f; body = data_at f }) → Marked f m
-    turn true q e = absurd (clash true refl (sym (ap (λ (x : Marks). x.past) e) ∙ p))
-    turn false q e = record { no3 = q; format = ap (λ (x : Marks). x.format) e; body = ap (λ (x : Marks). x.body) e }
+    turn : (b : Bool) → runs_past f ≡ b → Ok m ≡ either b (Err RunsPast) (Ok (record { format = place (format_at f); body = place (data_at f) })) → Marked f m
+    turn true q e = absurd cc
+    turn false q e =
+        let k : m ≡ record { format = place (format_at f); body = place (data_at f) } = cc in
+        record { no3 = q; format = ap (λ (x : Marks). x.format) k; body = ap (λ (x : Marks). x.body) k }
 
-pub runs : (f : List ℕ) (m : Marks) → m ≡ marks_of f → m.past ≡ true → runs_past f ≡ true
+pub runs : (f : List ℕ) (k : Refusal) → Err k ≡ marks_of f → (runs_past f ≡ true) × (k ≡ RunsPast)
 unfolding marks_of
-runs f m e p = turn (runs_past f) refl e
+runs f k e = turn (runs_past f) (record { format = place (format_at f); body = place (data_at f) }) refl e
   where
-    turn : (b : Bool) → runs_past f ≡ b → m ≡ either b (record { past = true; format = 0; body = 0 }) (record { past = false; format = format_at f; body = data_at f }) → runs_past f ≡ true
-    turn true q e = q
-    turn false q e = absurd (clash m.past p (ap (λ (x : Marks). x.past) e))
+    turn : (b : Bool) (m : Marks) → runs_past f ≡ b → Err k ≡ either b (Err RunsPast) (Ok m) → (runs_past f ≡ true) × (k ≡ RunsPast)
+    turn true m q e = (q, cc)
+    turn false m q e = absurd cc
 
 positive : (n : ℕ) → (n ≡ 0 → ⊥) → 0 < n
 positive n h = omega arith
@@ -117,42 +140,42 @@ unfolding odd_data
 even-data f n e = rw (has-data f n) (ne_eqb (size_at f (data_at f) % 2) 1 e)
 
 -- ---- 4 and 5
-pub format-none : (f : List ℕ) → format_at f ≡ 0 → 4 ≡ format_answer f
+pub format-none : (f : List ℕ) → format_at f ≡ 0 → Err NoFormat ≡ format_answer f
 unfolding format_answer
 format-none f e = rw (no-format-none f e)
 
-pub format-short : (f : List ℕ) → (format_at f ≡ 0 → ⊥) → size_at f (format_at f) < 16 → 4 ≡ format_answer f
+pub format-short : (f : List ℕ) → (format_at f ≡ 0 → ⊥) → size_at f (format_at f) < 16 → Err NoFormat ≡ format_answer f
 unfolding format_answer
 format-short f n h = rw (no-format-short f n h)
 
-pub format-sound : (f : List ℕ) (b : Bool) → (format_at f ≡ 0 → ⊥) → 16 ≤ size_at f (format_at f) → other_sound f (format_at f) ≡ b → either b 5 0 ≡ format_answer f
+pub format-sound : (f : List ℕ) (b : Bool) → (format_at f ≡ 0 → ⊥) → 16 ≤ size_at f (format_at f) → other_sound f (format_at f) ≡ b → either b (Err OtherFormat) (Ok (format_at f)) ≡ format_answer f
 unfolding format_answer
 format-sound f b n h e = rw (has-format f n h, sound-as f b (has-format f n h) e)
 
 -- ---- 6 and 7
-pub data-none : (f : List ℕ) → data_at f ≡ 0 → 6 ≡ data_answer f
+pub data-none : (f : List ℕ) → data_at f ≡ 0 → Err NoData ≡ data_answer f
 unfolding data_answer
 data-none f e = rw (no-data f e)
 
-pub data-odd : (f : List ℕ) → (data_at f ≡ 0 → ⊥) → size_at f (data_at f) % 2 ≡ 1 → 7 ≡ data_answer f
+pub data-odd : (f : List ℕ) → (data_at f ≡ 0 → ⊥) → size_at f (data_at f) % 2 ≡ 1 → Err OddData ≡ data_answer f
 unfolding data_answer
 data-odd f n e = rw (has-data f n, odd-data f n e)
 
-pub data-even : (f : List ℕ) → (data_at f ≡ 0 → ⊥) → (size_at f (data_at f) % 2 ≡ 1 → ⊥) → 0 ≡ data_answer f
+pub data-even : (f : List ℕ) → (data_at f ≡ 0 → ⊥) → (size_at f (data_at f) % 2 ≡ 1 → ⊥) → Ok (data_at f) ≡ data_answer f
 unfolding data_answer
 data-even f n e = rw (has-data f n, even-data f n e)
 
 -- ---- 3 to 7, one after the other
-abbrev low : Bool → Bool → ℕ
-low a b = either a 4 (either b 5 0)
+-- the first of two tests that holds refuses; else there is a place
+first-of-two : (a b : Bool) {j k e : Refusal} (at : ℕ) → Err e ≡ either a (Err j) (either b (Err k) (Ok at)) → ((a ≡ true) × (e ≡ j)) ⊎ ((a ≡ false) × ((b ≡ true) × (e ≡ k)))
+first-of-two true b at h = inl (refl, cc)
+first-of-two false true at h = inr (refl, (refl, cc))
+first-of-two false false at h = absurd cc
 
-abbrev high : Bool → Bool → ℕ
-high c d = either c 6 (either d 7 0)
-
-halves : (a b c d : Bool) → either a 4 (either b 5 (high c d)) ≡ either (eqb (low a b) 0) (high c d) (low a b)
-halves true b c d = refl
-halves false true c d = refl
-halves false false c d = refl
+none-of-two : (a b : Bool) (j k : Refusal) {at p : ℕ} → Ok p ≡ either a (Err j) (either b (Err k) (Ok at)) → (a ≡ false) × ((b ≡ false) × (p ≡ at))
+none-of-two true b j k h = absurd cc
+none-of-two false true j k h = absurd cc
+none-of-two false false j k h = (refl, (refl, cc))
 
 module _ (f : List ℕ) (short : length f ≤ 65536) (wave : not_wave f ≡ false) where
   pub give3 : runs_past f ≡ true → found f ≡ refused 3
@@ -160,34 +183,41 @@ module _ (f : List ℕ) (short : length f ≤ 65536) (wave : not_wave f ≡ fals
   give3 p = rw (not-long f short, wave, p)
 
   module _ (inside : runs_past f ≡ false) where
-    rest : answer_of f ≡ either (eqb (format_answer f) 0) (data_answer f) (format_answer f)
-    unfolding answer_of table format_answer data_answer
-    rest = rw (not-long f short, wave, inside) (halves (no_format f) (other_format f) (no_data f) (odd_data f))
+    pub give-format : (k : Refusal) → Err k ≡ format_answer f → refused (number k) ≡ found f
+    unfolding found answer_of table format_answer
+    give-format k e =
+        ⊎_elim
+        (λ (h : (no_format f ≡ true) × (k ≡ NoFormat)). rw (h.1, not-long f short, wave, inside, h.0))
+        (λ (h : (no_format f ≡ false) × ((other_format f ≡ true) × (k ≡ OtherFormat))). rw (h.1.1, not-long f short, wave, inside, h.0, h.1.0))
+        (first-of-two (no_format f) (other_format f) (format_at f) e)
 
-    pub give-format : (k : ℕ) → k ≡ format_answer f → (k ≡ 0 → ⊥) → found f ≡ refused k
-    unfolding found
-    give-format k e n = let a : answer_of f ≡ k = rest ∙ rw (← e, ne_eqb k 0 n) in rw (a, ne_eqb k 0 n)
+    module _ (p : ℕ) (sound : Ok p ≡ format_answer f) where
+      formats : (no_format f ≡ false) × ((other_format f ≡ false) × (p ≡ format_at f))
+      unfolding format_answer
+      formats = none-of-two (no_format f) (other_format f) NoFormat OtherFormat sound
 
-    pub give-data : format_answer f ≡ 0 → (k : ℕ) → k ≡ data_answer f → (k ≡ 0 → ⊥) → found f ≡ refused k
-    unfolding found
-    give-data z k e n = let a : answer_of f ≡ k = rest ∙ rw (z, ← e) in rw (a, ne_eqb k 0 n)
+      pub give-data : (k : Refusal) → Err k ≡ data_answer f → refused (number k) ≡ found f
+      unfolding found answer_of table data_answer
+      give-data k e =
+          ⊎_elim
+          (λ (h : (no_data f ≡ true) × (k ≡ NoData)). rw (h.1, not-long f short, wave, inside, formats.0, formats.1.0, h.0))
+          (λ (h : (no_data f ≡ false) × ((odd_data f ≡ true) × (k ≡ OddData))). rw (h.1.1, not-long f short, wave, inside, formats.0, formats.1.0, h.0, h.1.0))
+          (first-of-two (no_data f) (odd_data f) (data_at f) e)
 
-    pub give0 : format_answer f ≡ 0 → data_answer f ≡ 0 → found f ≡ accepted f
-    unfolding found
-    give0 z d = let a : answer_of f ≡ 0 = rest ∙ rw (z, d) in rw a
+      pub give0 : (q : ℕ) → Ok q ≡ data_answer f → accepted f ≡ found f
+      unfolding found answer_of table data_answer
+      give0 q e = let d = none-of-two (no_data f) (odd_data f) NoData OddData e in rw (not-long f short, wave, inside, formats.0, formats.1.0, d.0, d.1.0)
 
 -- ---- what is read of an accepted file lies in it
-answered-0 : (a b : Bool) (j k : ℕ) → 0 < j → either a j (either b k 0) ≡ 0 → a ≡ false
-answered-0 true b j k l e = absurd (omega arith)
-answered-0 false b j k l e = refl
-
-pub format-room : (f : List ℕ) → runs_past f ≡ false → format_answer f ≡ 0 → format_at f + 24 ≤ length f
+pub format-room : (f : List ℕ) (p : ℕ) → runs_past f ≡ false → Ok p ≡ format_answer f → (p ≡ format_at f) × (p + 24 ≤ length f)
 unfolding format_answer
-format-room f h e =
-    let d = format-is f (answered-0 (no_format f) (other_format f) 4 5 (omega arith) e) in
-    omega (arith, d.size, whole_le f (format_at f) (all_whole f h (format_at f) d.within))
+format-room f p h e =
+    let k = none-of-two (no_format f) (other_format f) NoFormat OtherFormat e in
+    let d = format-is f k.0 in
+    (k.1.1, omega (arith, k.1.1, d.size, whole_le f (format_at f) (all_whole f h (format_at f) d.within)))
 
-pub data-room : (f : List ℕ) → runs_past f ≡ false → data_answer f ≡ 0 → data_at f + 8 + size_at f (data_at f) ≤ length f
+pub data-room : (f : List ℕ) (p : ℕ) → runs_past f ≡ false → Ok p ≡ data_answer f → (p ≡ data_at f) × (p + 8 + size_at f p ≤ length f)
 unfolding data_answer
-data-room f h e =
-    whole_le f (data_at f) (all_whole f h (data_at f) (data_is f (answered-0 (no_data f) (odd_data f) 6 7 (omega arith) e)).0)
+data-room f p h e =
+    let k = none-of-two (no_data f) (odd_data f) NoData OddData e in
+    (k.1.1, rw k.1.1 (whole_le f (data_at f) (all_whole f h (data_at f) (data_is f k.0).0)))

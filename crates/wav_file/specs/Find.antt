@@ -4,7 +4,6 @@ use Rattle.std.specs.Prelude.{ℕ, ◌+◌, ◌%◌, Bool, true, false, not, ◌
 use Rattle.fixed.specs.Iter.{either}
 use Rattle.wav_file.specs.Bytes.{named, word16, word32}
 use Rattle.wav_file.specs.Riff.{size_at, is_format, is_data, whole, chunks, first}
-use Rattle.wav_file.specs.declared.find.Found.{Found}
 
 -- ---- the three chunks that matter, among those walked; 0 for none
 -- one that runs past the end, with its content or its head
@@ -74,20 +73,28 @@ answer_of file =
     either (is 1) 1 (either (is 2) 2 (either (is 3) 3 (either (is 4) 4 (either (is 5) 5 (either (is 6) 6 (either (is 7) 7 0))))))
 
 -- ---- what is handed back
--- the answer, the place and the length of the part, and the rate
-abbrev pub found_by : ℕ → ℕ → ℕ → ℕ → Found
+-- in numbers: the answer, 0 or the number of a refusal; the place of the part in the file, its length in bytes, and the samples a second. All
+-- three are 0 after a refusal
+pub record Outcome : Type 0 where
+  pub answer : ℕ
+  pub start : ℕ
+  pub length : ℕ
+  pub rate : ℕ
+
+-- the four together
+abbrev pub found_by : ℕ → ℕ → ℕ → ℕ → Outcome
 found_by answer start length rate = record { answer = answer; start = start; length = length; rate = rate }
 
 -- a refusal: an empty part
-abbrev pub refused : ℕ → Found
+abbrev pub refused : ℕ → Outcome
 refused k = found_by k 0 0 0
 
 -- accepted: the place and the length of the first `data`'s content, and the rate
-unfoldable pub accepted : List ℕ → Found
+unfoldable pub accepted : List ℕ → Outcome
 accepted file = found_by 0 (data_at file + 8) (size_at file (data_at file)) (word32 file (format_at file + 12))
 
 -- the first step, whole
-unfoldable pub found : List ℕ → Found
+unfoldable pub found : List ℕ → Outcome
 found file = either (eqb (answer_of file) 0) (accepted file) (refused (answer_of file))
 
 -- a part of a file: `length` bytes from `start` on

@@ -1,23 +1,30 @@
 -- What the walk over a file hands on, and what is answered once it is over. Assumes nothing.
-use Rattle.std.specs.Prelude.{ℕ, true, false, List, eqb}
+use Rattle.std.specs.Prelude.{ℕ, zero, suc, List, Option, Some, None, Result, Ok, Err}
 use Rattle.fixed.specs.Iter.{either}
 use Rattle.wav_file.specs.Riff.{is_format}
 use Rattle.wav_file.specs.Find.{format_at, data_at, runs_past, no_format, other_format, no_data, odd_data}
 use Rattle.wav_file.specs.declared.chunks.Marks.{Marks}
+use Rattle.wav_file.specs.declared.refusal.Refusal.{Refusal}
+use Rattle.wav_file.specs.declared.refusal.Refusal.TheVariants.{RunsPast, NoFormat, OtherFormat, NoData, OddData}
 
--- that a chunk runs past the end; or, where none does, the places of the first `fmt ` and the first `data`, 0 for none
-unfoldable pub marks_of : List ℕ → Marks
-marks_of file =
-    either (runs_past file) (record { past = true; format = 0; body = 0 }) (record { past = false; format = format_at file; body = data_at file })
+-- the place of a chunk, where 0 stands for none: the first chunk is at place 12
+abbrev pub place : ℕ → Option ℕ
+place zero = None
+place (suc at) = Some (suc at)
 
--- the first `fmt ` of a walk that has come to the chunk at `at`, when it was `format` before, 0 for none
-unfoldable pub format_with : List ℕ → ℕ → ℕ → ℕ
-format_with file at format = either (is_format file at) (either (eqb format 0) at format) format
+-- that a chunk runs past the end; or, where none does, the places of the first `fmt ` and the first `data`
+unfoldable pub marks_of : List ℕ → Result Marks Refusal
+marks_of file = either (runs_past file) (Err RunsPast) (Ok (record { format = place (format_at file); body = place (data_at file) }))
 
--- 4 or 5 by the first `fmt `, else 0
-unfoldable pub format_answer : List ℕ → ℕ
-format_answer file = either (no_format file) 4 (either (other_format file) 5 0)
+-- the first `fmt ` of a walk that has come to the chunk at `at`, when it was `format` before
+unfoldable pub format_with : List ℕ → ℕ → Option ℕ → Option ℕ
+format_with file at None = either (is_format file at) (Some at) None
+format_with file at (Some format) = Some format
 
--- 6 or 7 by the first `data`, else 0
-unfoldable pub data_answer : List ℕ → ℕ
-data_answer file = either (no_data file) 6 (either (odd_data file) 7 0)
+-- 4 or 5 by the first `fmt `, else its place
+unfoldable pub format_answer : List ℕ → Result ℕ Refusal
+format_answer file = either (no_format file) (Err NoFormat) (either (other_format file) (Err OtherFormat) (Ok (format_at file)))
+
+-- 6 or 7 by the first `data`, else its place
+unfoldable pub data_answer : List ℕ → Result ℕ Refusal
+data_answer file = either (no_data file) (Err NoData) (either (odd_data file) (Err OddData) (Ok (data_at file)))

@@ -2,12 +2,11 @@
 use Rattle.std.specs.Prelude.{ℕ, ◌+◌, ◌%◌, ◌≤◌, ◌≡◌, true, List, length}
 use Rattle.wav_file.specs.Bytes.{word16, word32}
 use Rattle.wav_file.specs.Riff.{size_at, is_format, is_data}
-use Rattle.wav_file.specs.Find.{rate_allowed, part}
+use Rattle.wav_file.specs.Find.{Outcome, rate_allowed, part}
 use Rattle.wav_file.specs.Walked.{Walked}
-use Rattle.wav_file.specs.declared.find.Found.{Found}
 
 -- the part lies in the file and is the content of the chunk at the place `at`, which is the one walked chunk `data`; it has an even length
-pub record IsData (file : List ℕ) (r : Found) : Type 0 where
+pub record IsData (file : List ℕ) (r : Outcome) : Type 0 where
   pub at : ℕ
   pub walked : Walked file at
   pub name : is_data file at ≡ true
@@ -19,7 +18,7 @@ pub record IsData (file : List ℕ) (r : Found) : Type 0 where
   pub bytes : length (part file r.start r.length) ≡ r.length
 
 -- the first walked chunk `fmt ` is the one at the place `at`; it has 16 bytes or more, which say PCM, one channel, 16 bits and the rate
-pub record IsFormat (file : List ℕ) (r : Found) : Type 0 where
+pub record IsFormat (file : List ℕ) (r : Outcome) : Type 0 where
   pub at : ℕ
   pub walked : Walked file at
   pub name : is_format file at ≡ true

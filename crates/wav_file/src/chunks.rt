@@ -1,17 +1,16 @@
 // The walk over the chunks of a file.
-ghost use Rattle.std.specs.Prelude.{◌≡◌, true, ◌+◌, ◌≤◌, ◌<◌, eqb, length};
-ghost use Rattle.fixed.specs.Iter.{either};
+ghost use Rattle.std.specs.Prelude.{◌≡◌, true, ◌+◌, ◌≤◌, ◌<◌, length};
 ghost use Rattle.wav_file.specs.Riff.{size_at, whole, after as after_at};
 ghost use Rattle.wav_file.specs.Marks.{marks_of, format_with};
 
 use crate::bytes;
+use crate::refusal::Refusal;
 
-// What the walk has met: that a chunk runs past the end; or the places of the first `fmt ` and the first `data`, 0 for none.
+// What the walk has met: the places of the first `fmt ` and the first `data`.
 #[derive(Clone, Copy)]
 pub struct Marks {
-    pub past: bool,
-    pub format: usize,
-    pub body: usize,
+    pub format: Option<usize>,
+    pub body: Option<usize>,
 }
 
 // The length of the content of the chunk at a place.
@@ -34,10 +33,7 @@ fn is_whole(file: &[u8], at: usize) -> bool
         return false;
     }
     let need = 8 + size_at(file, at);
-    if left < need {
-        return false;
-    }
-    true
+    need <= left
 }
 
 // The place behind a chunk that lies in the file, and behind its pad byte.
@@ -50,56 +46,36 @@ fn after(file: &[u8], at: usize) -> usize
     at + 8 + size + size % 2
 }
 
-// The place that was met first, where 0 stands for none before.
-fn first_of(before: usize, at: usize) -> usize
-    ensures { result ≡ either (eqb before 0) at before }
-{
-    if before != 0 {
-        return before;
-    }
-    at
-}
-
 // The first `fmt `, one chunk further.
-fn format_with(file: &[u8], at: usize, format: usize) -> usize
+fn format_with(file: &[u8], at: usize, format: Option<usize>) -> Option<usize>
     requires { at + 8 ≤ length file.now }
     ensures { result ≡ format_with file.now at format }
 {
-    if bytes::named(file, at, b'f', b'm', b't', b' ') {
-        return first_of(format, at);
+    if bytes::named(file, at, b"fmt ") {
+        format.or(Some(at))
+    } else {
+        format
     }
-    format
 }
 
 // The chunks from place 12 on, up to the first `data` or the end. Each but the last takes eight bytes at least, so
-// there are at most 8,191.
-pub fn walk(file: &[u8]) -> Marks
+// there are at most 8,191. Refused where one runs past the end. A `while`, since each step is as long as its chunk.
+pub fn walk(file: &[u8]) -> Result<Marks, Refusal>
     requires { length file.now ≤ 65536 }
     ensures { result ≡ marks_of file.now }
 {
     let mut at: usize = 12;
-    let mut format: usize = 0;
+    let mut format = None;
     while at < file.len() {
         if !is_whole(file, at) {
-            return Marks {
-                past: true,
-                format: 0,
-                body: 0,
-            };
+            return Err(Refusal::RunsPast);
         }
         format = format_with(file, at, format);
-        if bytes::named(file, at, b'd', b'a', b't', b'a') {
-            return Marks {
-                past: false,
-                format: format,
-                body: at,
-            };
+        if bytes::named(file, at, b"data") {
+            let body = Some(at);
+            return Ok(Marks { format, body });
         }
         at = after(file, at);
     }
-    Marks {
-        past: false,
-        format: format,
-        body: 0,
-    }
+    Ok(Marks { format, body: None })
 }

@@ -3,5 +3,5 @@
 pub mod Texts
 pub mod Room
 pub mod Plain
-pub mod Unique
 pub mod Examples
+pub mod Unique

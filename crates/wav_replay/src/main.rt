@@ -9,30 +9,28 @@
 
 use fixed::wrap;
 use limits::count;
+use pages::page::Page;
 use sheet_text::text;
 use sheet_words::words;
-use sheet_words::words::Word;
 use wav_file::{find, samples};
 
-// What the next case is of. After the last one stands nothing.
+// What a case is of.
 #[derive(Clone, Copy)]
 enum Case {
     File,
     Part,
-    None,
 }
 
-// The next case by its word, five bytes with the space behind it.
-fn kind() -> Case {
+// The next case by its word, five bytes with the space behind it. After the last one stands nothing.
+fn kind() -> Option<Case> {
     let mut word = [0u8; 5];
     io::read_full(0, &mut word);
     if word[0] != b'f' {
-        return Case::None;
-    }
-    if word[2] == b'n' {
-        Case::File
+        None
+    } else if word[2] == b'n' {
+        Some(Case::File)
     } else {
-        Case::Part
+        Some(Case::Part)
     }
 }
 
@@ -40,34 +38,34 @@ fn kind() -> Case {
 fn number() -> usize {
     let mut digits = [0u8; 7];
     io::read_full(0, &mut digits);
-    match words::number_of(&digits[0..6]) {
-        Word::Is(z) => count::count(wrap::low32(z)),
-        Word::Unreadable => 0,
+    match words::number_of(&digits[..6]) {
+        Some(z) => count::count(wrap::low32(z)),
+        None => 0,
     }
 }
 
 // A word and a number on a line.
 fn say(word: &[u8], n: u32) {
     let mut line = [0u8; 32];
-    let used = text::number_line(&mut line, 0, word, n);
-    io::write_all(1, &line[0..used]);
+    let mut page = Page::on(&mut line, 0);
+    text::number_line(&mut page, word, n);
+    io::write_all(1, page.text());
 }
 
-// What is found in a file, the first n bytes of the buffer. The length is that of the part itself.
-fn found(space: &[u8; 65537], n: usize) {
-    let all = &space[..];
-    if all.len() < n {
-        return;
+// What is found in a file. The length is that of the part itself.
+fn found(file: &[u8]) {
+    let length = find::part(file).len() as u32;
+    match find::find(file) {
+        Ok(f) => lines(0, f.start as u32, length, f.rate),
+        Err(refusal) => lines(refusal.number(), 0, length, 0),
     }
-    let file = &all[0..n];
-    let f = find::find(file);
-    let start = f.start as u32;
-    let part = find::part(file);
-    let length = part.len() as u32;
-    say(b"answer ", f.answer);
+}
+
+fn lines(answer: u32, start: u32, length: u32, rate: u32) {
+    say(b"answer ", answer);
     say(b"start ", start);
     say(b"length ", length);
-    say(b"rate ", f.rate);
+    say(b"rate ", rate);
 }
 
 // A file, read and answered as the program `wav` does it.
@@ -77,8 +75,8 @@ fn file() {
         return;
     }
     let mut space = [0u8; 65537];
-    io::read_full(0, &mut space[0..length]);
-    found(&space, length);
+    io::read_full(0, &mut space[..length]);
+    found(&space[..length]);
     let mut page = [0u8; 229247];
     let used = wav_page::page::whole(&space, length, &mut page);
     io::write_all(1, &page[..used]);
@@ -86,24 +84,23 @@ fn file() {
 
 // A row before the second step: words that no sample is but by chance.
 fn other_words(row: &mut [i16]) {
-    for i in 0..row.len() {
-        let word = (i % 65536) as u32 * 7919 + 23205;
-        row[i] = wrap::low16(word as i32);
+    for (i, word) in row.iter_mut().enumerate() {
+        let mixed = (i % 65536) as u32 * 7919 + 23205;
+        *word = wrap::low16(mixed as i32);
     }
 }
 
-// The answer of the second step for the first n bytes of the buffer, and the row as it is left.
-fn filled(space: &[u8; 65537], n: usize, row: &mut [i16]) {
-    let all = &space[..];
-    if all.len() < n {
-        return;
-    }
+// The answer of the second step for a part, and the row as it is left.
+fn filled(part: &[u8], row: &mut [i16]) {
     other_words(row);
-    let answer = samples::fill(&all[0..n], row);
-    say(b"answer ", answer);
-    let mut page = [0u8; 229247];
-    let used = text::sample_lines(&mut page, 0, row);
-    io::write_all(1, &page[0..used]);
+    match samples::fill(part, row) {
+        Ok(()) => say(b"answer ", 0),
+        Err(refusal) => say(b"answer ", refusal.number()),
+    }
+    let mut space = [0u8; 229247];
+    let mut page = Page::on(&mut space, 0);
+    text::value_lines(&mut page, row);
+    io::write_all(1, page.text());
 }
 
 // A part, with a row of the length that the list says.
@@ -114,23 +111,23 @@ fn part() {
         return;
     }
     let mut space = [0u8; 65537];
-    io::read_full(0, &mut space[0..length]);
+    io::read_full(0, &mut space[..length]);
     let mut row = [0i16; 32746];
-    filled(&space, length, &mut row[0..places]);
+    filled(&space[..length], &mut row[..places]);
 }
 
 // The next case of the list, if there is one.
 fn next() {
     match kind() {
-        Case::File => file(),
-        Case::Part => part(),
-        Case::None => {}
+        Some(Case::File) => file(),
+        Some(Case::Part) => part(),
+        None => {}
     }
 }
 
 // All cases of the list, at most 1,024.
 fn main() {
-    for k in 0usize..1024 {
+    for _ in 0..1024 {
         next();
     }
 }

@@ -7,7 +7,7 @@ use Rattle.fixed.specs.Row.{word}
 abbrev pub down_turn : ℕ → ℕ → List ℤ → List ℤ
 down_turn s j l = set l j (word l (s + j))
 
--- ..
+-- each in its turn, from the first on
 unfoldable pub moved_down : ℕ → ℕ → List ℤ → List ℤ
 moved_down s m l = iter (down_turn s) m l
 
@@ -15,6 +15,6 @@ moved_down s m l = iter (down_turn s) m l
 abbrev pub words_turn : List ℤ → ℕ → ℕ → List ℤ → List ℤ
 words_turn from a j l = set l j (word from (a + j))
 
--- ..
+-- each in its turn, from the first on
 unfoldable pub words_from : List ℤ → ℕ → ℕ → List ℤ → List ℤ
 words_from from a m l = iter (words_turn from a) m l

@@ -1,19 +1,10 @@
 -- `analysis::lpc_analysis_filter::silk_LPC_analysis_filter` meets its contract. Assumes nothing.
 use mathlib.Core.Path.{◌≡◌}
-use Prim.Native.Nat.{◌-◌, ◌≤◌}
+use Prim.Native.Nat.{◌≤◌}
 use lib.ListN.{length}
 use Rattle.fixed.specs.Iter.{iter}
-use Rattle.word_steps.specs.Filter.{filter_turn, clear_turn}
+use Rattle.word_steps.specs.Filter.{filter_turn}
 use Rattle.analysis.proofs.lpc_analysis_filter.silk_LPC_analysis_filter.Given as goal
 
 abbrev pub invariant-loop-k : goal.invariant-loop-k
 invariant-loop-k l = ((l.k ≤ l.n) × (length l.out ≡ length l.initial.out)) × (l.out ≡ iter (filter_turn l.input l.b l.order) l.k l.initial.out)
-
-abbrev pub decreases-loop-k : goal.decreases-loop-k
-decreases-loop-k l = l.n - l.k
-
-abbrev pub invariant-loop-i : goal.invariant-loop-i
-invariant-loop-i l = ((l.i ≤ l.order) × (length l.out ≡ length l.initial.out)) × (l.out ≡ iter clear_turn l.i l.initial.out)
-
-abbrev pub decreases-loop-i : goal.decreases-loop-i
-decreases-loop-i l = l.order - l.i

@@ -8,8 +8,9 @@ pub returns-then-again : goal.returns-then-again
 unfolding flushed_first
 returns-then-again c =
     let g = read c.ranges.gain1 in
-    (λ lpcs ltp dgain. rw c.if-again.true (rw g at (c.middle.ensures.0 lpcs ltp dgain)), c.middle.ensures.1)
+    let e = rw g at c.middle.ensures in
+    record { words = rw c.if-again.true e.words; kept = e.kept }
 
-pub returns : goal.returns
+pub returns-else-again : goal.returns-else-again
 unfolding flushed_first
-returns c = (λ lpcs ltp dgain. rw c.if-again.false, refl)
+returns-else-again c = record { words = rw c.if-again.false; kept = (refl, refl) }

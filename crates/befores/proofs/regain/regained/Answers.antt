@@ -12,13 +12,13 @@ pub returns-then-f-prev : goal.returns-then-f-prev
 unfolding regained
 returns-then-f-prev c =
     let g : SFits w32 c.args.f.Gain_Q16 = record { sfits = c.struct_told-1.given.1.1.1.1.1.1.1.1.1.0.1 } in
-    (λ dgain xq out. rw (same-yes g c.ranges.prev c.if-f-prev.true), refl)
-
-pub returns : goal.returns
-unfolding regained
-returns c =
-    let g : SFits w32 c.args.f.Gain_Q16 = record { sfits = c.struct_told-1.given.1.1.1.1.1.1.1.1.1.0.1 } in
-    let f = fix c.args.f c.struct_told-2-1.given in
+    let f = fix c.args.f c.struct_told-then-f-prev-1.given in
     let adj = got32 c.gain_adj_Q16-adj.result c.gain_adj_Q16-adj.type_inv ∙ rw (read c.ranges.prev, f.gain) at c.gain_adj_Q16-adj.ensures in
     let e = c.silk_nsq_del_dec_scale_states.ensures in
-    (λ dgain xq out. rw (same-no g c.ranges.prev c.if-f-prev.false) (rw adj at (e.0 dgain xq out)), e.1)
+    record { words = λ out. rw (same-no g c.ranges.prev c.if-f-prev.true) (rw adj at (e.words out)); kept = e.kept }
+
+pub returns-else-f-prev : goal.returns-else-f-prev
+unfolding regained
+returns-else-f-prev c =
+    let g : SFits w32 c.args.f.Gain_Q16 = record { sfits = c.struct_told-1.given.1.1.1.1.1.1.1.1.1.0.1 } in
+    record { words = λ out. rw (same-yes g c.ranges.prev c.if-f-prev.false); kept = (refl, refl) }

@@ -5,4 +5,4 @@ use Rattle.calls.proofs.begin.start_rings.Goals as goal
 
 pub returns : goal.returns
 unfolding start_rings
-returns c = rw (read c.ranges.shape, c.zero_gain-none.ensures)
+returns c = rw (read c.ranges.shape, c.zero_ring-none.ensures)

@@ -6,6 +6,6 @@ pub returns-then-voiced : goal.returns-then-voiced
 unfolding delay_by
 returns-then-voiced c = rw c.if-voiced.true c.voiced_delay.ensures
 
-pub returns : goal.returns
+pub returns-else-voiced : goal.returns-else-voiced
 unfolding delay_by
-returns c = rw c.if-voiced.false c.quiet_delay.ensures
+returns-else-voiced c = rw c.if-voiced.false c.quiet_delay.ensures

@@ -8,6 +8,6 @@ pub returns-then-lagPrev-gt0 : goal.returns-then-lagPrev-gt0
 unfolding quiet_delay
 returns-then-lagPrev-gt0 c = rw (lt-ltb 0 c.args.lagPrev c.if-lagPrev-gt0.true, ← c.most_delay-d.ensures) c.lowered.ensures
 
-pub returns : goal.returns
+pub returns-else-lagPrev-gt0 : goal.returns-else-lagPrev-gt0
 unfolding quiet_delay
-returns c = rw (le-ltb 0 c.args.lagPrev (omega arith)) c.most_delay-d.ensures
+returns-else-lagPrev-gt0 c = rw (le-ltb 0 c.args.lagPrev (omega arith)) c.most_delay-d.ensures

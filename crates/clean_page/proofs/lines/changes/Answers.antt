@@ -1,27 +1,24 @@
--- `clean_page::lines::changes` meets its contract. Assumes nothing.
-use mathlib.Core.Path.{ap, ◌∙◌}
-use lib.ListN.{take}
-use Rattle.pages.specs.Page.{page, puts}
-use Rattle.sheet_print.specs.Rows.{rows_of}
-use Rattle.cleaning.specs.Changes.{changes_in}
-use Rattle.clean_page.specs.Text.{changes_text}
-use Rattle.clean_page.proofs.Printed.{ten-puts}
+-- `clean_page::lines::changes` meets its contract: its ten sections, one after the other. Assumes nothing.
+use Rattle.std.proofs.lemmas.List.{map-id}
+use Rattle.sheet_print.specs.Rows.{settings_row, rows_of}
+use Rattle.cleaning.specs.Changes.{changes}
+use Rattle.clean_page.proofs.Printed.{first-added, last-added}
 use Rattle.clean_page.proofs.lines.changes.Goals as goal
 
 pub returns : goal.returns
-unfolding rows_of
+unfolding rows_of changes
 returns c =
-    let a = c.args in
-    let o = a.old in
-    let n = a.new in
-    let e1 = c.settings_lines-a.ensures in
-    let e2 = c.lines16-b.ensures ∙ ap (puts (changes_text (changes_in 2 1 (take o.samples.count o.samples.words) (take n.samples.count n.samples.words)))) e1 in
-    let e3 = c.lines16-c.ensures ∙ ap (puts (changes_text (changes_in 3 1 (take o.pred_coef.count o.pred_coef.words) (take n.pred_coef.count n.pred_coef.words)))) e2 in
-    let e4 = c.lines16-d.ensures ∙ ap (puts (changes_text (changes_in 4 1 (take o.ltp_coef.count o.ltp_coef.words) (take n.ltp_coef.count n.ltp_coef.words)))) e3 in
-    let e5 = c.lines16-e.ensures ∙ ap (puts (changes_text (changes_in 5 1 (take o.ar.count o.ar.words) (take n.ar.count n.ar.words)))) e4 in
-    let e6 = c.lines32-f.ensures ∙ ap (puts (changes_text (changes_in 6 1 (take o.harm_gains.count o.harm_gains.words) (take n.harm_gains.count n.harm_gains.words)))) e5 in
-    let e7 = c.lines32-g.ensures ∙ ap (puts (changes_text (changes_in 7 1 (take o.tilts.count o.tilts.words) (take n.tilts.count n.tilts.words)))) e6 in
-    let e8 = c.lines32-h.ensures ∙ ap (puts (changes_text (changes_in 8 1 (take o.lfs.count o.lfs.words) (take n.lfs.count n.lfs.words)))) e7 in
-    let e9 = c.lines32-k.ensures ∙ ap (puts (changes_text (changes_in 9 1 (take o.gains.count o.gains.words) (take n.gains.count n.gains.words)))) e8 in
-    let e10 = c.lines32.ensures ∙ ap (puts (changes_text (changes_in 10 1 (take o.lags.count o.lags.words) (take n.lags.count n.lags.words)))) e9 in
-    e10 ∙ ten-puts _ _ _ _ _ _ _ _ _ _ _ _ _ _ _ _ _ _ _ _ (page a.used a.out.now)
+    let old = c.args.old.now in
+    let new = c.args.new.now in
+    first-added 1 (settings_row old.settings) (settings_row new.settings) _ _
+    (rw (map-id c.settings_words-before.result, map-id c.settings_words-after.result, c.settings_words-before.ensures, c.settings_words-after.ensures) at c.row_lines.ensures)
+    (first-added 2 old.samples.items new.samples.items _ _ (rw (map-id c.as_slice.result.now, map-id c.as_slice-2.result.now, c.as_slice.ensures.value, c.as_slice-2.ensures.value) at c.row_lines-2.ensures)
+    (first-added 3 old.pred_coef.items new.pred_coef.items _ _ (rw (map-id c.as_slice-3.result.now, map-id c.as_slice-4.result.now, c.as_slice-3.ensures.value, c.as_slice-4.ensures.value) at c.row_lines-3.ensures)
+    (first-added 4 old.ltp_coef.items new.ltp_coef.items _ _ (rw (map-id c.as_slice-5.result.now, map-id c.as_slice-6.result.now, c.as_slice-5.ensures.value, c.as_slice-6.ensures.value) at c.row_lines-4.ensures)
+    (first-added 5 old.ar.items new.ar.items _ _ (rw (map-id c.as_slice-7.result.now, map-id c.as_slice-8.result.now, c.as_slice-7.ensures.value, c.as_slice-8.ensures.value) at c.row_lines-5.ensures)
+    (first-added 6 old.harm_gains.items new.harm_gains.items _ _ (rw (map-id c.as_slice-9.result.now, map-id c.as_slice-10.result.now, c.as_slice-9.ensures.value, c.as_slice-10.ensures.value) at c.row_lines-6.ensures)
+    (first-added 7 old.tilts.items new.tilts.items _ _ (rw (map-id c.as_slice-11.result.now, map-id c.as_slice-12.result.now, c.as_slice-11.ensures.value, c.as_slice-12.ensures.value) at c.row_lines-7.ensures)
+    (first-added 8 old.lfs.items new.lfs.items _ _ (rw (map-id c.as_slice-13.result.now, map-id c.as_slice-14.result.now, c.as_slice-13.ensures.value, c.as_slice-14.ensures.value) at c.row_lines-8.ensures)
+    (first-added 9 old.gains.items new.gains.items _ _ (rw (map-id c.as_slice-15.result.now, map-id c.as_slice-16.result.now, c.as_slice-15.ensures.value, c.as_slice-16.ensures.value) at c.row_lines-9.ensures)
+    (first-added 10 old.lags.items new.lags.items _ _ (rw (map-id c.as_slice-17.result.now, map-id c.as_slice-18.result.now, c.as_slice-17.ensures.value, c.as_slice-18.ensures.value) at c.row_lines-10.ensures)
+    (last-added 11 _))))))))))

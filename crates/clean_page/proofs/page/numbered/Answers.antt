@@ -1,21 +1,21 @@
 -- `clean_page::page::numbered` meets its contract. Assumes nothing.
-use mathlib.Core.Path.{ap, ◌∙◌}
-use mathlib.Core.List.{List}
-use Prim.Native.Nat.{ℕ}
-use Rattle.pages.specs.Page.{page, puts}
+use native.Mathlib.Omega.{arith}
+use mathlib.Core.Path.{refl, ap, ◌∙◌}
 use Rattle.refusal_rules.specs.Code.{code_of}
+use Rattle.refusal_rules.proofs.Matched.{code-refused}
 use Rattle.sheet_print.specs.Rows.{rows_of}
+use Rattle.pages.proofs.Pages.{added_as}
 use Rattle.clean_page.proofs.Texts.{accepted-text, refused-text}
 use Rattle.clean_page.proofs.page.numbered.Goals as goal
 
-pub returns-then-number-eq0 : goal.returns-then-number-eq0
-returns-then-number-eq0 c =
+pub returns-in-Ok : goal.returns-in-Ok
+returns-in-Ok c =
     let a = c.args in
-    c.became.ensures
-    ∙ ap (λ (s : List ℕ). puts s (page 0 a.page.now)) (accepted-text c.number-number.result _ a.input.now (rows_of a.read) (c.number-number.ensures ∙ ap code_of c.checked.ensures) c.if-number-eq0.true)
+    added_as (accepted-text 0 _ a.input.now (rows_of a.read.now) (ap code_of c.in-Ok.ensures) refl) c.became.ensures
 
-pub returns-else-number-eq0 : goal.returns-else-number-eq0
-returns-else-number-eq0 c =
+pub returns-in-Err : goal.returns-in-Err
+returns-in-Err c =
     let a = c.args in
+    added_as
+    (refused-text c.number.result _ a.input.now (rows_of a.read.now) (c.number.ensures ∙ ap code_of c.in-Err.ensures) (λ z. omega (arith, c.number.ensures, code-refused c.in-Err.why)))
     c.refused.ensures
-    ∙ ap (λ (s : List ℕ). puts s (page 0 a.page.now)) (refused-text c.number-number.result _ a.input.now (rows_of a.read) (c.number-number.ensures ∙ ap code_of c.checked.ensures) c.if-number-eq0.false)

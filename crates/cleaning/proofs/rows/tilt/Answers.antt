@@ -5,5 +5,4 @@ use Rattle.cleaning.proofs.Loops.{loop-low}
 use Rattle.cleaning.proofs.rows.tilt.Goals as goal
 
 pub returns : goal.returns
-returns c =
-    c.loop-i.invariant.1 ∙ loop-low c.loop-i.i c.args.row.now (omega arith)
+returns c = c.loop-w.invariant ∙ loop-low c.loop-w.w-index c.args.row.now (omega arith)

@@ -18,4 +18,4 @@ unfolding row_zero_only
 returns-else-two c =
     let s = c.args.s in
     let t : same_z s.nb_subfr (pos 2) ≡ false = sym c.two.ensures ∙ c.if-two.false in
-    rw t refl
+    rw t c.if-two.false

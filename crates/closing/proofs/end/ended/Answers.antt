@@ -6,28 +6,31 @@ use mathlib.Core.List.{[]}
 use lib.ListN.{get_or}
 use mir.Syntax.{w32}
 use mir.Facts.{to_z_pos}
-use Rattle.fixed.proofs.Fit.{read, back}
-use Rattle.path.specs.Data.{no_path, running}
+use Rattle.fixed.proofs.Fit.{read}
+use Rattle.path.specs.Data.{no_path}
 use Rattle.path.proofs.Told.{path}
-use Rattle.steps.specs.Flush.{Outs}
-use Rattle.steps.specs.Frame.{Framed, framed_of, flushed_run, Done, handed_out, ended_with, ended_by}
+use Rattle.edges.specs.Fits.{fit_by}
+use Rattle.steps.specs.Flush.{Outs, fit_last}
+use Rattle.steps.specs.Frame.{flushed_run, Done, handed_out, ended_with, ended_by}
+use Rattle.steps.specs.Lent.{framed_at}
 use Rattle.closing.proofs.end.ended.Goals as goal
 
 pub returns : goal.returns
-unfolding ended_by flushed_run
+unfolding ended_by flushed_run fit_by fit_last
 returns c =
     let a = c.args in
     let win = c.best-w.result in
-    let own = get_or a.t.work.ps win no_path in
-    let row = get_or a.lpc win [] in
+    let own = get_or a.t.work.states.owns win no_path in
+    let row = get_or a.t.work.states.lpcs win [] in
     let after : Outs → Done = λ o. handed_out a.g a.lag a.words a.t.prev own row o in
     let e = rw (c.times-all.ensures.0, read c.ranges.last) at c.flushed.ensures in
-    let init = (path own c.struct_told-2-1.given).init in
-    let prev = back w32 a.t.prev c.struct_told-1.given.1.1.0.1 in
+    let k = e.kept in
+    let init = (path own c.struct_told-1.given).init in
+    let state = rw (k.0.0, read c.ranges.lag) at c.left-state.ensures in
+    let unlike = rw (k.0.1, c.times-all.ensures.0) at c.differ-unlike.ensures.0 in
     let small : c.differ-unlike.result < 2 ^ 31 = omega (arith, c.differ-unlike.ensures.1, c.times-all.ensures.1) in
-    let ended : Framed → ℕ → Done = λ t j. ended_with a.g a.last a.lag a.words t j in record {
-      words = λ ltp dgain.
-          let t = framed_of (running a.t.work a.lpc a.ring ltp dgain a.xq a.shp a.pulses.now) a.t.sLTP a.t.prev in
-          rw (init, c.left-state.ensures, prev, read c.ranges.lag) (ap after e ∙ ap (ended t) c.best-w.ensures.0);
-      report = rw (to_z_pos w32 small, c.differ-unlike.ensures.0, c.times-all.ensures.0, c.best-w.ensures.0);
+    let ended : ℕ → Done = λ j. ended_with a.g a.last a.lag a.words (framed_at a.t a.pulses.now) j in
+    record {
+      words = rw (init, state) (ap after e.words ∙ ap ended c.best-w.ensures.0);
+      report = rw (to_z_pos w32 small, unlike, c.best-w.ensures.0);
     }

@@ -1,12 +1,8 @@
 -- `edges::ends::best` meets its contract. Assumes nothing.
-use mathlib.Core.Path.{◌≡◌}
-use Prim.Native.Nat.{◌≤◌, ◌<◌, ◌-◌}
-use Rattle.fixed.specs.Iter.{iter}
-use Rattle.steps.specs.Flush.{best_turn}
+use lib.ListN.{get_or}
+use lib.Signed.{lt_z}
+use Rattle.path.specs.Data.{no_path}
 use Rattle.edges.proofs.ends.best.Given as goal
 
-abbrev pub invariant-loop-k : goal.invariant-loop-k
-invariant-loop-k l = ((l.k ≤ l.n) × (l.w < l.n)) × (l.w ≡ iter (best_turn l.ps) l.k 0)
-
-abbrev pub decreases-loop-k : goal.decreases-loop-k
-decreases-loop-k l = l.n - l.k
+abbrev pub ghost-first_best : goal.ghost-first_best
+ghost-first_best a = λ k w. lt_z (get_or a.beats.0.now k no_path).RD_Q10 (get_or a.beats.0.now w no_path).RD_Q10

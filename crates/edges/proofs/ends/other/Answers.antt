@@ -7,6 +7,6 @@ pub returns-then-k-w : goal.returns-then-k-w
 unfolding other_path
 returns-then-k-w c = rw (eq-eqb _ _ c.if-k-w.true)
 
-pub returns : goal.returns
+pub returns-else-k-w : goal.returns-else-k-w
 unfolding other_path
-returns c = rw (ne_eqb _ _ c.if-k-w.false) c.raised.ensures
+returns-else-k-w c = rw (ne_eqb _ _ c.if-k-w.false) c.raised.ensures

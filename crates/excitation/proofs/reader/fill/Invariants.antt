@@ -1,5 +1,5 @@
 -- `excitation::reader::fill` meets its contract. Assumes nothing.
-use Prim.Native.Nat.{◌≤◌, ◌-◌, ◌^◌}
+use Prim.Native.Nat.{◌^◌}
 use mathlib.Core.Path.{◌≡◌}
 use lib.ListN.{length}
 use Rattle.fixed.specs.Iter.{iter}
@@ -9,10 +9,5 @@ use Rattle.excitation.proofs.Rows.{so_far}
 use Rattle.excitation.proofs.reader.fill.Given as goal
 
 abbrev pub invariant-loop-i : goal.invariant-loop-i
-invariant-loop-i l = (l.i ≤ l.i-end)
-    × ((l.i-end ≡ length l.pulses)
-    × ((length l.row ≡ length l.pulses)
-    × (so_far (mod_z l.seed (2 ^ 32)) l.i l.row ≡ iter (turn l.offset l.pulses) l.i (so_far (mod_z l.first (2 ^ 32)) 0 l.initial.row))))
-
-abbrev pub decreases-loop-i : goal.decreases-loop-i
-decreases-loop-i l = l.i-end - l.i
+invariant-loop-i l = (length l.row ≡ length l.pulses)
+    × (so_far (mod_z l.seed (2 ^ 32)) l.i l.row ≡ iter (turn l.offset l.pulses) l.i (so_far (mod_z l.first (2 ^ 32)) 0 l.initial.row))

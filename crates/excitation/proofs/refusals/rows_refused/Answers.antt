@@ -7,6 +7,6 @@ pub returns-then-pulses-row : goal.returns-then-pulses-row
 unfolding rows_refused
 returns-then-pulses-row c = simp (ne_eqb _ _ c.if-pulses-row.true)
 
-pub returns : goal.returns
+pub returns-else-pulses-row : goal.returns-else-pulses-row
 unfolding rows_refused
-returns c = simp (eq-eqb _ _ c.if-pulses-row.false)
+returns-else-pulses-row c = simp (eq-eqb _ _ c.if-pulses-row.false)

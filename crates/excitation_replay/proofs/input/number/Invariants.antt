@@ -1,9 +1,6 @@
 -- `excitation_replay::input::number` meets its contract. Assumes nothing.
-use Prim.Native.Nat.{◌≤◌, ◌<◌, ◌-◌}
+use Rattle.std.proofs.Common.{◌<◌}
 use Rattle.excitation_replay.proofs.input.number.Given as goal
 
-abbrev pub invariant-loop-i : goal.invariant-loop-i
-invariant-loop-i l = (l.i ≤ 12) × (l.v < 1099511627776)
-
-abbrev pub decreases-loop-i : goal.decreases-loop-i
-decreases-loop-i l = 12 - l.i
+abbrev pub invariant-loop : goal.invariant-loop
+invariant-loop l = l.v < 1099511627776

@@ -1,19 +1,26 @@
 -- `gain_terms::gains::at_least_one` meets its contract. Assumes nothing.
-use mathlib.Core.Path.{refl}
+use mathlib.Core.Path.{◌≡◌, refl, ◌∙◌}
+use mathlib.Core.Bool.{Bool, true, false}
 use native.Mathlib.Omega.{arith}
-use lib.IntN.{pos}
-use Rattle.fixed.proofs.Fit.{read, test32, lit32}
-use Rattle.fixed.proofs.Lin.{le-of-lin, lt-true}
+use lib.IntN.{ℤ, pos}
+use lib.Signed.{lt_z}
+use Rattle.std.specs.Int.{int_max}
+use Rattle.std.proofs.lemmas.Int.{ints, clamps}
+use Rattle.fixed.specs.Iter.{either}
+use Rattle.fixed.proofs.Fit.{read, got32}
 use Rattle.word_steps.specs.Gains.{at_least_one}
 use Rattle.gain_terms.proofs.gains.at_least_one.Goals as goal
 
-pub returns-then-gain-gt1 : goal.returns-then-gain-gt1
+greater : (z : ℤ) → int_max z (pos 1) ≡ at_least_one z
 unfolding at_least_one
-returns-then-gain-gt1 c =
-    let f = c.ranges.gain in
-    let t = test32 (lit32 (pos 1) tt) f c.if-gain-gt1.true in
-    rw (read f, t) (refl, le-of-lin (pos 1) c.args.gain (omega (arith, lt-true (pos 1) c.args.gain t)))
+greater z = go (lt_z (pos 1) z) refl
+  where
+    go : (b : Bool) → lt_z (pos 1) z ≡ b → int_max z (pos 1) ≡ either b z (pos 1)
+    go true e = omega (arith, ints, clamps)
+    go false e = omega (arith, ints, clamps)
 
-pub returns-else-gain-gt1 : goal.returns-else-gain-gt1
-unfolding at_least_one
-returns-else-gain-gt1 c = rw (test32 (lit32 (pos 1) tt) c.ranges.gain c.if-gain-gt1.false) (refl, record { le = tt })
+pub returns : goal.returns
+returns c =
+    let t = got32 c.max.result c.max.type_inv in
+    let v = (rw (read c.ranges.gain) at c.max.ensures.value) ∙ greater c.args.gain in
+    rw t (v, c.max.ensures.other_bound)

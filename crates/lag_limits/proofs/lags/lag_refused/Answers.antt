@@ -1,5 +1,6 @@
 -- `lag_limits::lags::lag_refused` meets its contract. Assumes nothing.
 use mathlib.Core.Path.{◌≡◌, refl, sym}
+use native.Mathlib.Omega.{arith}
 use mathlib.Core.Bool.{Bool}
 use Prim.Native.Nat.{ℕ, ◌^◌}
 use lib.IntN.{ℤ, pos, ◌*ℤ◌}
@@ -24,10 +25,13 @@ test j k u v f g e = rw (product j u f, product k v g) at e
 pub returns-then-lag-l : goal.returns-then-lag-l
 unfolding lag_refused outside
 returns-then-lag-l c =
-    let f = c.ranges in rw (test 5 2 tt tt f.lag f.l c.if-lag-l.true)
-
-pub returns : goal.returns
-unfolding lag_refused outside
-returns c =
     let f = c.ranges in
-    rw (test 5 2 tt tt f.lag f.l c.if-lag-l.false) (sym (test 18 5 tt tt f.l f.lag refl))
+    let lag : SFits w32 c.args.lag.now = record { sfits = omega arith } in
+    rw (test 5 2 tt tt lag f.l c.if-lag-l.true, c.if-lag-l.true)
+
+pub returns-else-lag-l : goal.returns-else-lag-l
+unfolding lag_refused outside
+returns-else-lag-l c =
+    let f = c.ranges in
+    let lag : SFits w32 c.args.lag.now = record { sfits = omega arith } in
+    rw (test 5 2 tt tt lag f.l c.if-lag-l.false) (sym (test 18 5 tt tt f.l lag refl))

@@ -1,11 +1,23 @@
 -- `leaving::emission::leaves` meets its contract. Assumes nothing.
+use mathlib.Core.Bool.{Bool, true, false, not}
+use mathlib.Core.Path.{◌≡◌, refl}
+use Rattle.fixed.specs.Iter.{either}
 use Rattle.steps.specs.Leaving.{leaves}
 use Rattle.leaving.proofs.emission.leaves.Goals as goal
 
-pub returns-then-f : goal.returns-then-f
-unfolding leaves
-returns-then-f c = rw c.if-f.true
+-- a later subframe, and the first
+later : (first late : Bool) → not first ≡ true → not first ≡ either first late true
+later true late e = absurd (cc)
+later false late e = refl
 
-pub returns : goal.returns
+firsts : (first late : Bool) → not first ≡ false → late ≡ either first late true
+firsts true late e = refl
+firsts false late e = absurd (cc)
+
+pub returns-then-not-f : goal.returns-then-not-f
 unfolding leaves
-returns c = rw c.if-f.false
+returns-then-not-f c = later c.args.f.first _ c.if-not-f.true
+
+pub returns-else-not-f : goal.returns-else-not-f
+unfolding leaves
+returns-else-not-f c = firsts c.args.f.first _ c.if-not-f.false

@@ -6,7 +6,7 @@ use Rattle.nsq_c.proofs.calling.short_number.Goals as goal
 
 pub returns-then-settings-ne12 : goal.returns-then-settings-ne12
 unfolding short_number
-returns-then-settings-ne12 c = rw (ne_eqb (length c.args.settings.now) 12 c.if-settings-ne12.true)
+returns-then-settings-ne12 c = rw (ne_eqb (length c.args.settings.now) 12 c.if-settings-ne12.true, c.number.ensures)
 
 pub returns : goal.returns
 unfolding short_number

@@ -1,13 +1,16 @@
 -- `nsq_c::report::nsq_del_dec_report` meets its contract. Assumes nothing.
 use Prim.Native.Nat.{ℕ}
-use mathlib.Core.Path.{◌≡◌, ap, ◌∙◌}
+use native.Mathlib.Omega.{arith}
+use mathlib.Core.Path.{◌≡◌, refl, ap, ◌∙◌}
 use mathlib.Core.Logic.{◌≢◌}
 use mathlib.Core.List.{List}
 use lib.ListN.{length, set}
 use lib.IntN.{ℤ, pos}
 use borrow.Author.Tests.{eq-eqb, ne_eqb}
 use mir.Syntax.{w32}
-use Rattle.fixed.proofs.Fit.{back}
+use mir.Val.{to_z, of_z}
+use Rattle.refusal_rules.proofs.Matched.{code-refused}
+use Rattle.std.proofs.Common.{rules}
 use Rattle.plain_laid.specs.Laid.{Left}
 use Rattle.nsq_c.specs.Rows.{call_in}
 use Rattle.nsq_c.specs.Report.{report_in, Reported, reported_of, with_report, reported}
@@ -28,23 +31,24 @@ unfolding reported
 returns-then-report-ne1 c =
     rw (ne_eqb (length c.args.report.now) 1 c.if-report-ne1.true, c.short_number.ensures)
 
-pub returns-then-r-eq0 : goal.returns-then-r-eq0
+pub returns-in-Ok : goal.returns-in-Ok
 unfolding reported
-returns-then-r-eq0 c =
+returns-in-Ok c =
     let a = c.args in
     let it = call_in a.settings.now a.samples.now a.words.now a.pred.now a.long.now a.ar.now a.harm.now a.tilt.now a.lf.now a.gains.now a.lags.now in
     let k = report_in a.settings.now a.samples.now a.words.now it a.x.now a.pulses.now in
     let with : Left → Reported = λ l. with_report k a.report.now l in
     let one = eq-eqb (length a.report.now) 1 c.if-report-ne1.false in
-    let count = back w32 c.called-r.result.report c.struct_told-1.given.1.0.1 in
-    rw (one, count, c.called-r.ensures.report) (written k a.report.now _ c.if-r-eq0.true ∙ ap with c.called-r.ensures.rows)
+    let count : to_z w32 (of_z w32 c.in-Ok.count) ≡ c.in-Ok.count = search rules in
+    rw (one, count, c.in-Ok.ensures.report) (written k a.report.now _ refl ∙ ap with c.in-Ok.ensures.rows)
 
-pub returns-else-r-eq0 : goal.returns-else-r-eq0
+pub returns-in-Err : goal.returns-in-Err
 unfolding reported
-returns-else-r-eq0 c =
+returns-in-Err c =
     let a = c.args in
     let it = call_in a.settings.now a.samples.now a.words.now a.pred.now a.long.now a.ar.now a.harm.now a.tilt.now a.lf.now a.gains.now a.lags.now in
     let k = report_in a.settings.now a.samples.now a.words.now it a.x.now a.pulses.now in
     let with : Left → Reported = λ l. with_report k a.report.now l in
     let one = eq-eqb (length a.report.now) 1 c.if-report-ne1.false in
-    rw one (left k a.report.now _ c.if-r-eq0.false ∙ ap with c.called-r.ensures.rows)
+    let some = code-refused c.in-Err.why in
+    rw (one, c.number.ensures) (left k a.report.now _ (λ e. omega arith) ∙ ap with c.in-Err.ensures.rows)

@@ -11,6 +11,6 @@ returns-then-f-gt0 c =
     let r = c.n_LTP in
     rw (lt-ltb _ _ c.if-f-gt0.true) (got32 r.result r.type_inv ∙ rw (read c.ranges.packed, read c.ranges.ltp_pred) at r.ensures)
 
-pub returns : goal.returns
+pub returns-else-f-gt0 : goal.returns-else-f-gt0
 unfolding harmonic
-returns c = rw (le-ltb _ _ c.if-f-gt0.false)
+returns-else-f-gt0 c = rw (le-ltb _ _ c.if-f-gt0.false)

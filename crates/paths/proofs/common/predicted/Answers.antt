@@ -9,6 +9,6 @@ unfolding predicted
 returns-then-f c =
     let r = c.ltp_prediction in rw c.if-f.true (got32 r.result r.type_inv ∙ r.ensures)
 
-pub returns : goal.returns
+pub returns-else-f : goal.returns-else-f
 unfolding predicted
-returns c = rw c.if-f.false
+returns-else-f c = rw c.if-f.false

@@ -8,7 +8,7 @@ use Rattle.steps.specs.Carried.{note_turn}
 use Rattle.paths.proofs.each.noted.Given as goal
 
 abbrev pub invariant-loop-k : goal.invariant-loop-k
-invariant-loop-k l = (l.k ≤ l.n) × (l.own ≡ iter (note_turn l.g (λ j. pulse_of (ring_at l.ring j ring_q l.r))) l.k l.initial.own)
+invariant-loop-k l = (l.k ≤ l.n) × (l.chosen ≡ iter (note_turn l.g (λ j. pulse_of (ring_at l.rings j ring_q l.r))) l.k l.initial.chosen)
 
 abbrev pub decreases-loop-k : goal.decreases-loop-k
 decreases-loop-k l = l.n - l.k

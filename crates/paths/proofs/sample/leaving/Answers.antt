@@ -22,4 +22,4 @@ returns c =
       back w32 c.ring_at-pred.result c.ring_at-pred.type_inv,
       back w32 c.ring_at-shape.result c.ring_at-shape.type_inv,
     )
-    (ap put c.taken_all-qs.ensures ∙ rw (c.ring_at-q.ensures, c.ring_at-xq.ensures, c.ring_at-pred.ensures, c.ring_at-shape.ensures))
+    (ap put c.taken_all.ensures ∙ rw (c.ring_at-q.ensures, c.ring_at-xq.ensures, c.ring_at-pred.ensures, c.ring_at-shape.ensures))

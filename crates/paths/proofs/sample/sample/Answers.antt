@@ -16,8 +16,8 @@ unfolding sample tried
 returns c =
     let a = c.args in
     let n = a.f.«nStates» in
-    let l = a.lpc.now in
-    let g = a.ring.now in
-    let from : Moves → Settled = λ m. settled full_copy (pairs a.f a.a.now a.s a.i a.r0 m l g) n a.i a.r a.last (paths m.owns l g) in
-    let copied : Moves → List (List ℤ) = λ m. copied_row (swap_from (pairs a.f a.a.now a.s a.i a.r0 m l g) g n a.last) a.own.now in
+    let l = a.ps.now.lpcs in
+    let g = a.ps.now.rings in
+    let from : Moves → Settled = λ m. settled full_copy (pairs a.f a.v.a.now a.s a.i a.r0 m l g) n a.i a.r a.last (paths m.owns l g) in
+    let copied : Moves → List (List ℤ) = λ m. copied_row (swap_from (pairs a.f a.v.a.now a.s a.i a.r0 m l g) g n a.last) a.chosen.now in
     record { words = c.settled.ensures.words ∙ rw c.pairs-c.ensures (ap from c.moves-m.ensures); chosen = c.settled.ensures.chosen ∙ rw c.pairs-c.ensures (ap copied c.moves-m.ensures) }

@@ -10,7 +10,7 @@ returns c =
     let a = c.args in
     let leave : Paths → Settled = leaving c.moved_over-e.result a.n a.i a.r a.last c.least-w.result in record {
       words = c.leaving.ensures
-          ∙ ap leave (c.replaced-qs.ensures.words a.i)
+          ∙ ap leave (c.replaced.ensures.words a.i)
           ∙ simp (c.moved_over-e.ensures, c.swap_of-s.ensures.0, c.penalised-d.ensures, c.least-w.ensures.0);
-      chosen = c.replaced-qs.ensures.chosen ∙ simp (c.swap_of-s.ensures.0, c.penalised-d.ensures, c.least-w.ensures.0);
+      chosen = c.replaced.ensures.chosen ∙ simp (c.swap_of-s.ensures.0, c.penalised-d.ensures, c.least-w.ensures.0);
     }

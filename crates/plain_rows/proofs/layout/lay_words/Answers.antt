@@ -9,8 +9,8 @@ use Rattle.plain_rows.proofs.layout.lay_words.Goals as goal
 pub returns : goal.returns
 unfolding words_of
 returns c =
-    let e1 : length c.lay640.new.part ≡ 640 = search rules in
-    let e2 : length c.lay96.new.part ≡ 96 = search rules in
-    let e3 : length c.lay24.new.part ≡ 24 = search rules in
-    laid-words c.args.words.now c.lay640.new.part c.lay96.new.part c.lay24.new.part c.lay7.new.part c.requires e1 e2 e3
-    ∙ rw (c.lay640.ensures, c.lay96.ensures, c.lay24.ensures, c.lay7.ensures, c.scalars_of-scalars.ensures)
+    let e1 : length c.copy_from_slice.new.self ≡ 640 = search rules in
+    let e2 : length c.copy_from_slice-2.new.self ≡ 96 = search rules in
+    let e3 : length c.copy_from_slice-3.new.self ≡ 24 = search rules in
+    laid-words c.args.words.now c.copy_from_slice.new.self c.copy_from_slice-2.new.self c.copy_from_slice-3.new.self c.copy_from_slice-4.new.self c.requires e1 e2 e3
+    ∙ rw (c.copy_from_slice.ensures.after, c.copy_from_slice-2.ensures.after, c.copy_from_slice-3.ensures.after, c.copy_from_slice-4.ensures.after, c.scalars_of.ensures)

@@ -15,10 +15,10 @@ returns c =
     let words = c.args.words.now in
     let given : (k : ℕ) → mag (word words k) < 2 ^ 31 → to_z w32 (of_z w32 (word words k)) ≡ word words k = λ k h. back w32 (word words k) h in
     rw (
-      c.history-xq.ensures,
-      c.words640-shp.ensures,
-      c.words96-lpc.ensures,
-      c.words24-ar2.ensures,
+      c.part.ensures,
+      c.part-2.ensures,
+      c.part-3.ensures,
+      c.part-4.ensures,
       given 760 c.result-1.given,
       given 761 c.result-2-1.given,
       given 762 c.result-3-1.given,

@@ -1,29 +1,30 @@
 -- `refusals::rows::each_refused` meets its contract. Assumes nothing.
-use borrow.Author.Tests.{ne_eqb, eq-eqb}
-use Rattle.refusal_rules.specs.Table.{each_refused}
+use mathlib.Core.Path.{◌≡◌, refl, ◌∙◌}
+use mathlib.Core.Bool.{Bool, true, false, ◌||◌}
+use mathlib.Core.List.{[], ◌∷◌}
+use Prim.Native.Nat.{ℕ}
+use Rattle.refusal_rules.specs.Table.{another, each_refused}
+use Rattle.std.proofs.Common.{rules, tests}
+use Rattle.std.proofs.lemmas.Iterator.{YieldsList-from_slice}
+use Rattle.std.proofs.lemmas.Iterator.Search.{any_from_yields_List}
 use Rattle.refusals.proofs.rows.each_refused.Goals as goal
 
-pub returns-then-z-n : goal.returns-then-z-n
-unfolding each_refused
-returns-then-z-n c =
-    simp (ne_eqb _ _ c.if-z-n.true)
-
-pub returns-then-z-n-2 : goal.returns-then-z-n-2
-unfolding each_refused
-returns-then-z-n-2 c =
-    simp (eq-eqb _ _ c.if-z-n.false, ne_eqb _ _ c.if-z-n-2.true)
-
-pub returns-then-z-n-3 : goal.returns-then-z-n-3
-unfolding each_refused
-returns-then-z-n-3 c =
-    simp (eq-eqb _ _ c.if-z-n.false, eq-eqb _ _ c.if-z-n-2.false, ne_eqb _ _ c.if-z-n-3.true)
-
-pub returns-then-gains-n : goal.returns-then-gains-n
-unfolding each_refused
-returns-then-gains-n c =
-    simp (eq-eqb _ _ c.if-z-n.false, eq-eqb _ _ c.if-z-n-2.false, eq-eqb _ _ c.if-z-n-3.false, ne_eqb _ _ c.if-gains-n.true)
+-- five tests, from the first on and from the last back
+five : (a b c d e : Bool) → (a || (b || (c || (d || (e || false))))) ≡ (a || b || c || d || e)
+five true b c d e = refl
+five false true c d e = refl
+five false false true d e = refl
+five false false false true e = refl
+five false false false false true = refl
+five false false false false false = refl
 
 pub returns : goal.returns
 unfolding each_refused
 returns c =
-    simp (eq-eqb _ _ c.if-z-n.false, eq-eqb _ _ c.if-z-n-2.false, eq-eqb _ _ c.if-z-n-3.false, eq-eqb _ _ c.if-gains-n.false)
+    let a = c.args in
+    let n = a.n in
+    let z = a.z in
+    any_from_yields_List (λ (k : ℕ). another k n) _ _ c.any.result c.any.ensures.ran
+    (YieldsList-from_slice (z.harm_gain ∷ z.tilt ∷ z.lf ∷ a.gains ∷ a.lags ∷ []) cc)
+    (λ x b q k. search (rules, tests))
+    ∙ five (another z.harm_gain n) (another z.tilt n) (another z.lf n) (another a.gains n) (another a.lags n)

@@ -1,21 +1,12 @@
 -- `residuals::residual::signed_residual` meets its contract. Assumes nothing.
 use mathlib.Core.Path.{◌∙◌}
-use lib.IntN.{pos}
-use Rattle.fixed.proofs.Fit.{read, got32, test32, lit32}
-use Rattle.residuals.specs.Residual.{turned, signed_residual}
+use Rattle.fixed.proofs.Fit.{read, got32}
+use Rattle.residuals.specs.Residual.{signed_residual}
 use Rattle.residuals.proofs.residual.signed_residual.Goals as goal
 
-pub returns-then-seed-lt0 : goal.returns-then-seed-lt0
-unfolding signed_residual turned
-returns-then-seed-lt0 c =
-    let f = c.ranges in
-    let v = got32 c.neg32.result c.neg32.type_inv ∙ rw (read f.r) at c.neg32.ensures in
-    rw (test32 f.seed (lit32 (pos 0) tt) c.if-seed-lt0.true)
-    (got32 c.clamp32.result c.clamp32.type_inv ∙ rw v at c.clamp32.ensures)
-
 pub returns : goal.returns
-unfolding signed_residual turned
+unfolding signed_residual
 returns c =
     let f = c.ranges in
-    rw (test32 f.seed (lit32 (pos 0) tt) c.if-seed-lt0.false)
-    (got32 c.clamp32-2.result c.clamp32-2.type_inv ∙ rw (read f.r) at c.clamp32-2.ensures)
+    let v = got32 c.turned.result c.turned.type_inv ∙ rw (read f.seed, read f.r) at c.turned.ensures in
+    got32 c.clamp32.result c.clamp32.type_inv ∙ rw v at c.clamp32.ensures

@@ -5,17 +5,16 @@ use lib.IntN.{pos}
 use lib.ListN.{length}
 use lib.Signed.{◌≤ℤ◌}
 use Rattle.fixed.specs.Iter.{iter}
-use Rattle.path.specs.Data.{running}
 use Rattle.steps.specs.Among.{full_copy}
 use Rattle.steps.specs.Carried.{chosen, carry_from}
-use Rattle.steps.specs.Frame.{framed_of, turn_by}
+use Rattle.steps.specs.Lent.{framed_at, run_in}
 use Rattle.running.proofs.run.run.Given as goal
 
 abbrev pub invariant-loop-k : goal.invariant-loop-k
-invariant-loop-k l = (((l.k ≤ l.k-end) × (l.k-end ≡ l.g.nb_subfr)) × ((length l.pulses ≡ length l.initial.pulses) × ((pos 1 ≤ℤ l.u.prev) × (l.u.work.smpl_buf_idx < 40))))
-    × ((framed_of (running l.u.work l.lpc l.ring l.ltp l.dgain l.xq l.shp l.pulses) l.u.sLTP l.u.prev
-    ≡ iter (turn_by full_copy l.g l.x l.pred l.long l.ar l.tilt l.harm l.lf l.gains l.lags) l.k (framed_of (running l.initial.u.work l.initial.lpc l.initial.ring l.initial.ltp l.initial.dgain l.initial.xq l.initial.shp l.initial.pulses) l.initial.u.sLTP l.initial.u.prev))
-    × (l.own ≡ iter (carry_from chosen full_copy l.g l.x l.pred l.long l.ar l.tilt l.harm l.lf l.gains l.lags (framed_of (running l.initial.u.work l.initial.lpc l.initial.ring l.initial.ltp l.initial.dgain l.initial.xq l.initial.shp l.initial.pulses) l.initial.u.sLTP l.initial.u.prev)) l.k l.initial.own))
+invariant-loop-k l = (((l.k ≤ l.k-end) × (l.k-end ≡ l.g.nb_subfr)) × ((length l.pulses ≡ length l.initial.pulses) × ((pos 1 ≤ℤ l.t.prev) × (l.t.work.smpl_buf_idx < 40))))
+    × ((framed_at l.t l.pulses ≡ run_in full_copy l.g l.r l.k (framed_at l.initial.t l.initial.pulses))
+    × (l.t.work.chosen
+    ≡ iter (carry_from chosen full_copy l.g l.r.x.now l.r.pred.now l.r.long.now l.r.ar.now l.r.tilt.now l.r.harm.now l.r.lf.now l.r.gains.now l.r.lags.now (framed_at l.initial.t l.initial.pulses)) l.k l.initial.t.work.chosen))
 
 abbrev pub decreases-loop-k : goal.decreases-loop-k
 decreases-loop-k l = l.k-end - l.k

@@ -2,12 +2,12 @@
 use mathlib.Core.Path.{◌≡◌}
 use Prim.Native.Nat.{◌≤◌, ◌-◌}
 use Rattle.fixed.specs.Iter.{iter}
-use Rattle.path.specs.Data.{paths}
+use Rattle.path.specs.Data.{paths_of}
 use Rattle.steps.specs.Scale.{scale_path_turn}
 use Rattle.scaling.proofs.scale.scaled_paths.Given as goal
 
 abbrev pub invariant-loop-k : goal.invariant-loop-k
-invariant-loop-k l = (l.k ≤ l.n) × (paths l.qs l.lpc l.ring ≡ iter (scale_path_turn l.adj) l.k (paths l.initial.qs l.initial.lpc l.initial.ring))
+invariant-loop-k l = (l.k ≤ l.n) × (paths_of l.ps ≡ iter (scale_path_turn l.adj) l.k (paths_of l.initial.ps))
 
 abbrev pub decreases-loop-k : goal.decreases-loop-k
 decreases-loop-k l = l.n - l.k

@@ -11,17 +11,20 @@ pub returns : goal.returns
 unfolding scaled
 returns c =
     let a = c.args in
+    let w = a.w.now in
     let f = read c.ranges.adj in
     let u = rw f at c.scaled_words.ensures in
     let v = rw f at c.scaled_work.ensures in
-    let p = rw f at c.scaled_paths-qs.ensures in (
-      λ dgain xq out.
+    let p = rw f at c.scaled_paths.ensures in
+    record {
+      words =
+          λ out.
           let put : Paths → Running = λ t. record {
-            core = record { ps = t; sLTP_Q15 = scaled_work a.f a.rewhitened a.adj a.ltp.now; delayedGain_Q10 = dgain; smpl_buf_idx = a.w.smpl_buf_idx };
-            xq = xq;
-            sLTP_shp_Q14 = scaled_words a.adj a.f.base (4 * a.f.subfr_length) a.shp.now;
+            core = record { ps = t; sLTP_Q15 = scaled_work a.f a.rewhitened a.adj w.sLTP_Q15; delayedGain_Q10 = w.delayedGain_Q10; smpl_buf_idx = w.smpl_buf_idx };
+            xq = w.xq;
+            sLTP_shp_Q14 = scaled_words a.adj a.f.base (4 * a.f.subfr_length) w.sLTP_shp_Q14;
             pulses = out;
           } in
-          rw (u, v) (ap put p),
-      refl,
-    )
+          rw (u, v) (ap put p);
+      kept = (refl, refl);
+    }

@@ -8,11 +8,11 @@ pub returns-then-not-length_allowed : goal.returns-then-not-length_allowed
 unfolding lengths_refused
 returns-then-not-length_allowed c =
     let e : c.length_allowed.result ≡ length_allowed c.args.l = rw (read c.ranges.l) at c.length_allowed.ensures in
-    rw (sym e ∙ c.if-not-length_allowed.true)
+    rw (sym e ∙ c.if-not-length_allowed.true, c.if-not-length_allowed.true)
 
-pub returns : goal.returns
+pub returns-else-not-length_allowed : goal.returns-else-not-length_allowed
 unfolding lengths_refused
-returns c =
+returns-else-not-length_allowed c =
     let a = c.args in
     let f = c.ranges in
     let e : c.length_allowed.result ≡ length_allowed a.l = rw (read f.l) at c.length_allowed.ensures in

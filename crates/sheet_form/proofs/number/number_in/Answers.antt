@@ -5,19 +5,19 @@ use lib.ListN.{drop, length-drop}
 use lib.IntN.{ℤ}
 use mir.Syntax.{w64}
 use mir.Val.{SFits}
-use Rattle.fixed.proofs.Fit.{read}
-use Rattle.sheet_words.specs.Number.{Maybe, in_word, in_range, and_rest}
-use Rattle.sheet_form.specs.Found.{range, number_found}
-use Rattle.sheet_words.specs.Words.{word_found}
-use Rattle.sheet_words.proofs.Runs.{run-le}
-use Rattle.sheet_form.proofs.NextWord.{number-at, number-none, found_at}
+use Rattle.std.specs.Prelude.{Option}
 use Rattle.std.proofs.Common.{rules}
+use Rattle.fixed.proofs.Fit.{read}
+use Rattle.sheet_words.specs.Number.{in_word, in_range, and_rest}
+use Rattle.sheet_form.specs.Found.{range}
+use Rattle.sheet_words.proofs.Runs.{run-le}
+use Rattle.sheet_form.proofs.NextWord.{number-at, number-none}
 use Rattle.sheet_form.proofs.number.number_in.Goals as goal
 
 pub returns-then-text-start : goal.returns-then-text-start
 returns-then-text-start c =
     let a = c.args in
-    sym (number-none a.text.now a.at c.end_of_run-start.result c.end_of_run-start.ensures (range a.low a.high) c.if-text-start.true)
+    sym (number-none a.text.now a.at c.end_of_run-start.result c.end_of_run-start.ensures (range a.bounds) c.if-text-start.true)
 
 pub slice_bounds-number_of-end : goal.slice_bounds-number_of-end
 slice_bounds-number_of-end c =
@@ -25,26 +25,36 @@ slice_bounds-number_of-end c =
     let s = c.end_of_run-start.result in
     omega (arith, c.end_of_run-end.ensures, run-le in_word (drop s a.text.now), length-drop s a.text.now)
 
-pub returns-in-Is : goal.returns-in-Is
-unfolding in_range
-returns-in-Is c =
-    let a = c.args in
-    let r = range a.low a.high in
-    let at = number-at a.text.now a.at c.end_of_run-start.result c.end_of_run-start.ensures r c.end_of_run-end.result c.end_of_run-end.ensures in
-    let rest = drop c.end_of_run-end.result a.text.now in
-    let f = c.ranges in
-    let zf : SFits w64 c.in-Is.z = search rules in
-    ap (number_found a.text.now) (rw (read f.low, read f.high, read zf) at c.within.ensures)
-    ∙ found_at a.text.now _ _
-    ∙ ap (λ (m : Maybe ℤ). and_rest (in_range r m) rest) (ap word_found (sym c.in-Is.is) ∙ c.number_of.ensures)
-    ∙ sym at
-
-pub returns-in-Unreadable : goal.returns-in-Unreadable
+pub returns-in_err-z : goal.returns-in_err-z
 unfolding in_range and_rest
-returns-in-Unreadable c =
+returns-in_err-z c =
     let a = c.args in
-    let r = range a.low a.high in
-    let at = number-at a.text.now a.at c.end_of_run-start.result c.end_of_run-start.ensures r c.end_of_run-end.result c.end_of_run-end.ensures in
+    let r = range a.bounds in
     let rest = drop c.end_of_run-end.result a.text.now in
-    ap (λ (m : Maybe ℤ). and_rest (in_range r m) rest) (ap word_found (sym c.in-Unreadable.is) ∙ c.number_of.ensures)
-    ∙ sym at
+    let at = number-at a.text.now a.at c.end_of_run-start.result c.end_of_run-start.ensures r c.end_of_run-end.result c.end_of_run-end.ensures in
+    rw c.from_residual.ensures (ap (λ (m : Option ℤ). and_rest (in_range r m) rest) (sym c.in_err-z.was ∙ c.number_of.ensures) ∙ sym at)
+
+pub returns-in_err-within : goal.returns-in_err-within
+unfolding in_range and_rest
+returns-in_err-within c =
+    let a = c.args in
+    let r = range a.bounds in
+    let rest = drop c.end_of_run-end.result a.text.now in
+    let at = number-at a.text.now a.at c.end_of_run-start.result c.end_of_run-start.ensures r c.end_of_run-end.result c.end_of_run-end.ensures in
+    let z : SFits w64 c.in_ok-z.z = search rules in
+    let e = sym c.in_err-within.was ∙ rw (read z) at c.within.ensures in
+    rw c.from_residual-in_err-within.ensures
+    (ap (λ (m : Option ℤ). and_rest m rest) e ∙ ap (λ (m : Option ℤ). and_rest (in_range r m) rest) (sym c.in_ok-z.was ∙ c.number_of.ensures) ∙ sym at)
+
+pub returns : goal.returns
+unfolding in_range and_rest
+returns c =
+    let a = c.args in
+    let r = range a.bounds in
+    let rest = drop c.end_of_run-end.result a.text.now in
+    let at = number-at a.text.now a.at c.end_of_run-start.result c.end_of_run-start.ensures r c.end_of_run-end.result c.end_of_run-end.ensures in
+    let z : SFits w64 c.in_ok-z.z = search rules in
+    let x : SFits w64 c.in_ok-within.field-0 = search rules in
+    let e = sym c.in_ok-within.was ∙ rw (read z) at c.within.ensures in
+    rw (read x)
+    (ap (λ (m : Option ℤ). and_rest m rest) e ∙ ap (λ (m : Option ℤ). and_rest (in_range r m) rest) (sym c.in_ok-z.was ∙ c.number_of.ensures) ∙ sym at)

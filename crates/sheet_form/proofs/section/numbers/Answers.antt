@@ -2,75 +2,52 @@
 use mathlib.Core.Path.{◌≡◌, sym, ap, ◌∙◌}
 use Prim.Native.Nat.{◌+◌, ◌-◌}
 use native.Mathlib.Omega.{arith}
-use mathlib.Core.List.{List}
-use lib.ListN.{take, drop, length-set}
-use lib.Seq.{length-take-le}
-use lib.IntN.{ℤ}
-use mir.Syntax.{w32, w64}
-use mir.Val.{SFits, to_z, of_z}
+use mathlib.Core.List.{[], ◌∷◌, ◌++◌}
+use Prim.Native.Nat.{ℕ}
+use Rattle.sheet_words.specs.Number.{Range, number}
+use lib.ListN.{drop}
+use mir.Syntax.{w64}
+use mir.Val.{SFits}
 use Rattle.fixed.proofs.Fit.{read}
-use Rattle.sheet_form.specs.Sections.{numbers}
-use Rattle.sheet_form.specs.Found.{range, number_found}
-use Rattle.sheet_form.proofs.Numbers.{prepend, numbers_more, numbers-bad, numbers-done, number_fits, drop-set, row-full, take-set-more, took-bad, took-got}
+use Rattle.sheet_form.proofs.Numbers.{numbers_more, numbers-bad, numbers-done, number-range, length-more}
 use Rattle.std.proofs.Common.{rules}
 use Rattle.sheet_form.proofs.section.numbers.Goals as goal
 
-pub overflow_cast-words : goal.overflow_cast-words
-overflow_cast-words c =
+pub returns-in_err-z : goal.returns-in_err-z
+returns-in_err-z g c =
     let a = c.args in
-    let text = a.text.now in
-    let r = range (to_z w64 (of_z w64 a.low)) (to_z w64 (of_z w64 a.high)) in
-    let e = sym c.number_in.ensures ∙ ap (number_found text) c.in-Is.is in
-    let f = c.ranges in
-    let zf : SFits w64 c.in-Is.z = search rules in
-    rw (read zf)
-    (number_fits w32 r _ _ _ (rw (read f.low) c.requires.1.0) (rw (read f.high) c.requires.1.1) e)
-
-pub returns-in-Unreadable : goal.returns-in-Unreadable
-returns-in-Unreadable c =
-    let a = c.args in
-    let text = a.text.now in
-    let r = range (to_z w64 (of_z w64 a.low)) (to_z w64 (of_z w64 a.high)) in
-    let e = sym c.number_in.ensures ∙ ap (number_found text) c.in-Unreadable.is in
+    let words = g.R.Row.words in
+    let rest = drop c.loop-i.place a.text.now in
     let i = c.loop-i.i in
-    let s = c.stopped.ensures in
-    took-bad text a.k _ _ _
-    (rw (read c.ranges.low, read c.ranges.high) at (c.loop-i.invariant.1.1
-    ∙ numbers-bad r (a.count - i) (a.count - (i + 1)) (drop c.loop-i.place text) (take i c.loop-i.words) (omega arith) e))
-    s.0 s.1
+    let e = ap (λ (r : Range). number r rest) (sym c.bounds-bounds.ensures) ∙ sym c.in_err-z.ensures in
+    rw c.from_residual.ensures (sym (c.loop-i.invariant.1 ∙ numbers-bad words (a.count - i) (a.count - (i + 1)) rest (g.R.Row.numbers c.loop-i.row) (omega arith) e))
+
+pub add-requires-clause-fits : goal.add-requires-clause-fits
+add-requires-clause-fits g c =
+    let a = c.args in
+    let rest = drop c.loop-i.place a.text.now in
+    let z : SFits w64 c.in_ok-z.z = search rules in
+    let e = ap (λ (r : Range). number r rest) (sym c.bounds-bounds.ensures) ∙ sym c.in_ok-z.ensures in
+    rw (read z) (number-range g.R.Row.words rest (drop c.in_ok-z.next a.text.now) c.in_ok-z.z e)
 
 pub loop-i-preserved : goal.loop-i-preserved
-loop-i-preserved c =
+loop-i-preserved g c =
     let a = c.args in
-    let text = a.text.now in
-    let r = range (to_z w64 (of_z w64 a.low)) (to_z w64 (of_z w64 a.high)) in
-    let zf : SFits w64 c.in-Is.z = search rules in
-    let e = sym c.number_in.ensures ∙ ap (number_found text) c.in-Is.is in
-    let f = c.ranges in
-    let v : SFits w32 c.in-Is.z = number_fits w32 r _ _ _ (rw (read f.low) c.requires.1.0) (rw (read f.high) c.requires.1.1) e in
-    let w : to_z w32 (of_z w32 (to_z w64 (of_z w64 c.in-Is.z))) ≡ c.in-Is.z = rw (read zf) (read v) in
+    let words = g.R.Row.words in
+    let rest = drop c.loop-i.place a.text.now in
+    let more = drop c.in_ok-z.next a.text.now in
     let i = c.loop-i.i in
-    let words = c.loop-i.words in
-    let h = c.loop-i.invariant in
-    rw w (
-      (search rules, length-set words i c.in-Is.z ∙ h.0.1),
-      (
-        drop-set words i c.in-Is.z (omega arith) h.0.1 h.1.0,
-        h.1.1
-            ∙ numbers_more r (a.count - i) (a.count - (i + 1)) (drop c.loop-i.place text) (drop c.in-Is.next text) c.in-Is.z (take i words) (omega arith) e
-            ∙ ap (λ (done : List ℤ). prepend done (numbers r (a.count - (i + 1)) (drop c.in-Is.next text))) (sym (take-set-more words i c.in-Is.z (omega arith))),
-      ),
+    let row = g.R.Row.numbers c.loop-i.row in
+    let z : SFits w64 c.in_ok-z.z = search rules in
+    let e = ap (λ (r : Range). number r rest) (sym c.bounds-bounds.ensures) ∙ sym c.in_ok-z.ensures in
+    let f : g.R.Row.numbers c.add.new.self ≡ row ++ (c.in_ok-z.z ∷ []) = rw (read z) at c.add.ensures in
+    rw f (
+      length-more row c.in_ok-z.z ∙ ap (λ (n : ℕ). n + 1) c.loop-i.invariant.0,
+      c.loop-i.invariant.1 ∙ numbers_more words (a.count - i) (a.count - (i + 1)) rest more c.in_ok-z.z row (omega arith) e,
     )
 
 pub returns : goal.returns
-returns c =
+returns g c =
     let a = c.args in
-    let text = a.text.now in
-    let r = range (to_z w64 (of_z w64 a.low)) (to_z w64 (of_z w64 a.high)) in
-    let i = c.loop-i.i in
-    let words = c.loop-i.words in
-    let h = c.loop-i.invariant in
-    let e : i ≡ a.count = omega arith in
-    took-got text a.k _ (take i words) c.loop-i.place _
-    (rw (read c.ranges.low, read c.ranges.high) at (h.1.1 ∙ numbers-done r (a.count - i) (drop c.loop-i.place text) (take i words) (omega arith)))
-    (rw (← e, length-take-le i words (omega arith), ← row-full words i (omega arith) h.0.1 h.1.0))
+    let rest = drop c.loop-i.place a.text.now in
+    sym (c.loop-i.invariant.1 ∙ numbers-done g.R.Row.words (a.count - c.loop-i.i) rest (g.R.Row.numbers c.loop-i.row) (omega arith))

@@ -1,19 +1,14 @@
 -- `sheet_form::sheet::end` meets its contract. Assumes nothing.
 use native.Mathlib.Omega.{arith}
-use Rattle.sheet_form.specs.Sheets.{end_of}
 use Rattle.sheet_form.proofs.Whole.{end-good, end-bad}
 use Rattle.sheet_form.proofs.sheet.end.Goals as goal
 
 pub returns-then-text-end_of_run : goal.returns-then-text-end_of_run
 returns-then-text-end_of_run c =
     let a = c.args in
-    rw c.in-At.is (end-good a.text.now a.k c.in-At.at (omega (arith, c.end_of_run.ensures)))
+    end-good a.text.now a.k a.from (omega (arith, c.end_of_run.ensures))
 
 pub returns-else-text-end_of_run : goal.returns-else-text-end_of_run
 returns-else-text-end_of_run c =
     let a = c.args in
-    rw c.in-At.is (end-bad a.text.now a.k c.in-At.at (omega (arith, c.end_of_run.ensures)))
-
-pub returns-in-Fault : goal.returns-in-Fault
-unfolding end_of
-returns-in-Fault c = rw c.in-Fault.is
+    end-bad a.text.now a.k a.from (omega (arith, c.end_of_run.ensures))

@@ -8,4 +8,4 @@ pub returns : goal.returns
 unfolding fresh_lag fresh_state
 returns c =
     let a = c.args in
-    c.check.ensures ∙ lent-answer a.read _ _ _ _ _ _ c.with_default.ensures c.sizes.ensures refl refl c.first32.ensures c.first32-2.ensures
+    c.check.ensures ∙ lent-answer a.read.now _ _ _ _ _ _ c.with_default.ensures c.sizes.ensures refl refl c.as_slice.ensures.value c.as_slice-2.ensures.value

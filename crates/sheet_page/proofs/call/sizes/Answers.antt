@@ -5,4 +5,4 @@ use Rattle.sheet_page.proofs.call.sizes.Goals as goal
 pub returns : goal.returns
 returns c =
     let a = c.args in
-    lent-sizes a.read _ _ _ _ _ _ _ _ c.length16.ensures c.length16-2.ensures c.length16-3.ensures c.length16-4.ensures c.length32.ensures c.length32-2.ensures c.length32-3.ensures c.frame_length.ensures
+    lent-sizes a.read.now _ _ _ _ _ _ _ _ c.len.ensures.value c.len-2.ensures.value c.len-3.ensures.value c.len-4.ensures.value c.len-5.ensures.value c.len-6.ensures.value c.len-7.ensures.value c.frame_length.ensures

@@ -11,4 +11,4 @@ pub returns : goal.returns
 returns c =
     let a = c.args in
     c.told.ensures
-    ∙ ap (λ (s : List ℕ). puts s (page 0 a.page.now)) (lent_row keeps_first a.read c.pulse_count-n.result c.zeros8-space.result c.pulse_count-n.ensures c.zeros8-space.ensures)
+    ∙ ap (λ (s : List ℕ). puts s (page 0 a.page.now)) (lent_row keeps_first a.read.now c.pulse_count-n.result c.zeros8-space.result c.pulse_count-n.ensures c.zeros8-space.ensures)

@@ -1,13 +1,9 @@
 -- `sheet_print::sheet::row_line` meets its contract. Assumes nothing.
-use mathlib.Core.Path.{◌≡◌}
-use Prim.Native.Nat.{◌-◌, ◌≤◌}
-use lib.ListN.{length, drop}
-use Rattle.pages.specs.Page.{page, puts}
+use mathlib.Core.List.{map}
+use lib.ListN.{take}
+use Rattle.pages.specs.Added.{Added}
 use Rattle.sheet_text.specs.Text.{spaced}
 use Rattle.sheet_print.proofs.sheet.row_line.Given as goal
 
-abbrev pub invariant-loop-i : goal.invariant-loop-i
-invariant-loop-i l = ((l.i ≤ l.count) × (length l.out ≡ length l.initial.out)) × (puts (spaced l.words) (page l.initial.m l.initial.out) ≡ puts (spaced (drop l.i l.words)) (page l.m l.out))
-
-abbrev pub decreases-loop-i : goal.decreases-loop-i
-decreases-loop-i l = l.count - l.i
+abbrev pub invariant-loop-x : goal.invariant-loop-x
+invariant-loop-x g l = Added l.initial.page (spaced (map g.T.Number.value (take l.x-index l.row))) l.page

@@ -1,11 +1,6 @@
 -- `sheet_text::text::number_line` meets its contract. Assumes nothing.
-use mathlib.Core.Path.{ap, ◌∙◌}
-use lib.IntN.{pos}
-use Rattle.pages.specs.Page.{page, put}
-use Rattle.sheet_text.proofs.Lines.{line-puts, digits_decimal}
+use Rattle.sheet_text.proofs.Lines.{line-added}
 use Rattle.sheet_text.proofs.text.number_line.Goals as goal
 
 pub returns : goal.returns
-returns c =
-    let a = c.args in
-    c.put.ensures ∙ ap (put 10) (c.digits-b.ensures ∙ rw (digits_decimal a.n, c.put_all-a.ensures)) ∙ line-puts a.word.now (pos a.n) (page a.used a.out.now)
+returns g c = line-added c.args.word.now (g.T.Number.value c.args.x) c.put_all.ensures c.decimal.ensures c.put.ensures

@@ -1,18 +1,17 @@
--- `sheet_text::text::value_lines` meets its contract: the loop's invariant is `Printing`. Assumes nothing.
-use native.Mathlib.Omega.{arith}
-use lib.ListN.{get_or}
-use lib.IntN.{pos}
-use mir.Syntax.{w32}
-use mir.Val.{SFits}
-use Rattle.fixed.proofs.Fit.{read}
-use Rattle.sheet_text.proofs.Lines.{printing-next, printing-done}
-use Rattle.std.proofs.Common.{rules}
+-- `sheet_text::text::value_lines` meets its contract. Assumes nothing.
+use mathlib.Core.Path.{sym}
+use Rattle.pages.proofs.Pages.{added_none, added_then, added_as}
+use Rattle.sheet_text.specs.Text.{pulse_lines}
+use Rattle.sheet_text.proofs.Lines.{row-more}
 use Rattle.sheet_text.proofs.text.value_lines.Goals as goal
 
-pub loop-i-preserved : goal.loop-i-preserved
-loop-i-preserved c =
-    let v : SFits w32 (get_or c.args.values.now c.loop-i.i (pos 0)) = search rules in
-    printing-next _ _ c.loop-i.invariant (omega arith) c.one_value-m.auto.out (rw (read v) at c.one_value-m.ensures)
+pub loop-i-init : goal.loop-i-init
+unfolding pulse_lines
+loop-i-init g c = added_none c.args.page.now
 
-pub returns : goal.returns
-returns c = printing-done c.loop-i.invariant (omega arith)
+pub loop-i-preserved : goal.loop-i-preserved
+loop-i-preserved g c =
+    let l = c.loop-i in
+    let x = c.index-values-i in
+    added_as (sym (row-more g.T.Number.value _ l.i c.args.values.now x.result c.loop-i-test.true x.is))
+    (added_then _ _ l.invariant (added_then _ _ c.decimal.ensures (rw c.after_pulse.ensures at c.put.ensures)))

@@ -1,25 +1,25 @@
 -- `sheet_words::words::end_of_run` meets its contract. Assumes nothing.
-use mathlib.Core.Path.{sym, ◌∙◌}
+use Prim.Native.Nat.{◌-◌, ◌<◌, ◌^◌}
+use lib.ListN.{length, drop, length-drop}
+use lib.Seq.{take_all}
 use native.Mathlib.Omega.{arith}
 use Rattle.sheet_words.specs.Words.{in_class}
-use Rattle.sheet_words.proofs.Runs.{run_end, run-stop, run_more}
+use Rattle.sheet_words.proofs.Runs.{run-le, run_end}
 use Rattle.std.proofs.Common.{rules}
 use Rattle.sheet_words.proofs.words.end_of_run.Goals as goal
 
-pub returns-then-not-in_class : goal.returns-then-not-in_class
-returns-then-not-in_class c =
+pub overflow_add-result : goal.overflow_add-result
+overflow_add-result c =
     let a = c.args in
-    let s = run-stop (in_class a.class) a.text.now c.loop-at.at (search rules) (sym c.in_class.ensures ∙ c.if-not-in_class.true) in
-    omega arith
+    let l = length-drop a.from a.text.now in
+    let all = take_all (length a.text.now - a.from) (drop a.from a.text.now) (omega arith) in
+    let h = run-le (in_class a.class) (drop a.from a.text.now) in
+    let e = rw all at c.run_length.ensures in
+    let n : length a.text.now < 2 ^ 64 = search rules in
+    record { fits = omega arith }
 
-pub loop-at-preserved : goal.loop-at-preserved
-loop-at-preserved c =
+pub returns-then-text-from : goal.returns-then-text-from
+returns-then-text-from c =
     let a = c.args in
-    let s = run_more (in_class a.class) a.text.now c.loop-at.at (search rules) (sym c.in_class.ensures ∙ c.if-not-in_class.false) in
-    omega arith
-
-pub returns : goal.returns
-returns c =
-    let a = c.args in
-    let s = run_end (in_class a.class) a.text.now c.loop-at.at (search rules) in
+    let h = run_end (in_class a.class) a.text.now a.from (search rules) in
     omega arith

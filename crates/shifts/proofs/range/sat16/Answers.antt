@@ -1,42 +1,31 @@
 -- `shifts::range::sat16` meets its contract. Assumes nothing.
-use mathlib.Core.Path.{◌∙◌, subst⁻¹}
+use mathlib.Core.Path.{◌≡◌, refl, ◌∙◌}
+use mathlib.Core.Bool.{Bool, true, false}
 use native.Mathlib.Omega.{arith}
-use lib.IntN.{pos, negsuc}
-use mir.Syntax.{w16, w32}
+use lib.IntN.{ℤ, pos, negsuc}
+use lib.Signed.{lt_z}
+use mir.Syntax.{w16}
 use mir.Val.{SFits}
-use mir.Facts.{sfits_lit}
+use Rattle.std.specs.Int.{int_max, int_min}
+use Rattle.std.proofs.lemmas.Int.{ints, clamps}
+use Rattle.fixed.specs.Iter.{either}
 use Rattle.fixed.specs.Range.{sat16, clamp}
-use Rattle.fixed.proofs.Lin.{lt-false, sfits-of-lin}
-use Rattle.fixed.proofs.Fit.{read, test32}
+use Rattle.fixed.proofs.Fit.{read, got32}
 use Rattle.shifts.proofs.range.sat16.Goals as goal
 
-lo : SFits w32 (negsuc 32767)
-lo = sfits_lit tt
-
-hi : SFits w32 (pos 32767)
-hi = sfits_lit tt
-
-fits16 : (c : goal.Else-v-ltminus32768) → SFits w16 c.args.v
-fits16 c =
-    let v = c.args.v in
-    let f = c.ranges.v in
-    let h = lt-false (pos 32767) v (test32 hi f c.if-v-gt32767.false) in
-    let l = lt-false v (negsuc 32767) (test32 f lo c.if-v-ltminus32768.false) in
-    sfits-of-lin w16 v (omega arith) (omega arith)
-
-pub overflow_cast-result : goal.overflow_cast-result
-overflow_cast-result c = subst⁻¹ (SFits w16) (read c.ranges.v) (fits16 c)
-
-pub returns-then-v-gt32767 : goal.returns-then-v-gt32767
+between : (v : ℤ) → int_max (negsuc 32767) (int_min v (pos 32767)) ≡ sat16 v
 unfolding sat16 clamp
-returns-then-v-gt32767 c = rw (test32 hi c.ranges.v c.if-v-gt32767.true)
+between v = go (lt_z (pos 32767) v) (lt_z v (negsuc 32767)) refl refl
+  where
+    go : (b c : Bool) → lt_z (pos 32767) v ≡ b → lt_z v (negsuc 32767) ≡ c
+        → int_max (negsuc 32767) (int_min v (pos 32767)) ≡ either b (pos 32767) (either c (negsuc 32767) v)
+    go true c e f = omega (arith, ints, clamps)
+    go false true e f = omega (arith, ints, clamps)
+    go false false e f = omega (arith, ints, clamps)
 
-pub returns-then-v-ltminus32768 : goal.returns-then-v-ltminus32768
-unfolding sat16 clamp
-returns-then-v-ltminus32768 c = let f = c.ranges.v in rw (test32 hi f c.if-v-gt32767.false, test32 f lo c.if-v-ltminus32768.true)
-
-pub returns-else-v-ltminus32768 : goal.returns-else-v-ltminus32768
-unfolding sat16 clamp
-returns-else-v-ltminus32768 c =
-    let f = c.ranges.v in
-    rw (test32 hi f c.if-v-gt32767.false, test32 f lo c.if-v-ltminus32768.false) (read (overflow_cast-result c) ∙ read f)
+pub returns : goal.returns
+returns c =
+    let r = c.clamp.result in
+    let t = got32 r c.clamp.type_inv in
+    let fits : SFits w16 r = let e = c.clamp.ensures.value in let l = c.clamp.ensures.lower_bound in let h = c.clamp.ensures.upper_bound in omega (arith, ints, clamps) in
+    rw t (read fits ∙ (rw (read c.ranges.v) at c.clamp.ensures.value) ∙ between c.args.v)

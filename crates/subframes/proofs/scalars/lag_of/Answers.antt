@@ -12,6 +12,6 @@ returns-then-g c =
     let a = c.args in
     rw c.if-g.true (rw (back w32 (get_or a.lags.now a.k (pos 0)) c.lag-1.given) at c.count.ensures)
 
-pub returns : goal.returns
+pub returns-else-g : goal.returns-else-g
 unfolding lag_by
-returns c = rw c.if-g.false
+returns-else-g c = rw c.if-g.false

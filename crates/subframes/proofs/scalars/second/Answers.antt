@@ -7,6 +7,6 @@ pub returns-then-twice : goal.returns-then-twice
 unfolding second_by
 returns-then-twice c = rw (sym c.twice.ensures ∙ c.if-twice.true)
 
-pub returns : goal.returns
+pub returns-else-twice : goal.returns-else-twice
 unfolding second_by
-returns c = rw (sym c.twice.ensures ∙ c.if-twice.false)
+returns-else-twice c = rw (sym c.twice.ensures ∙ c.if-twice.false) c.if-twice.false

@@ -6,6 +6,6 @@ pub returns-then-g : goal.returns-then-g
 unfolding twice_by
 returns-then-g c = rw c.if-g.true
 
-pub returns : goal.returns
+pub returns-else-g : goal.returns-else-g
 unfolding twice_by
-returns c = rw c.if-g.false
+returns-else-g c = rw c.if-g.false

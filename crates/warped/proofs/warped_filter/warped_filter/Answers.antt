@@ -27,7 +27,7 @@ unfolding warped_filter
 returns c =
     let l = c.loop-j in
     let a = c.args in
-    let o : a.order - 1 ≡ l.j = omega arith in
+    let o : l.j ≡ a.order - 1 = omega arith in
     let n = got32 c.smlawb.result c.smlawb.type_inv ∙ rw (got16 _ c.smlawb-arg-2-1.given) at c.smlawb.ensures in
-    let e = rw (read c.ranges.warping, read c.ranges.diff) at (ap (write a.ar.now l.j) l.invariant.1) in
-    rw o (record { sum = n ∙ ap (λ (f : Filter). f.n_AR_Q14) e; words = ap (λ (f : Filter). f.sAR2_Q14) e })
+    let e = rw (o, read c.ranges.warping, read c.ranges.diff) at (ap (write a.ar.now l.j) l.invariant.1) in
+    record { sum = n ∙ ap (λ (f : Filter). f.n_AR_Q14) e; words = ap (λ (f : Filter). f.sAR2_Q14) e }

@@ -1,5 +1,5 @@
 -- `warped::warped_filter::warped_filter` meets its contract. Assumes nothing.
-use Prim.Native.Nat.{◌+◌, ◌-◌, ◌≤◌}
+use Prim.Native.Nat.{◌≤◌}
 use mathlib.Core.Path.{◌≡◌}
 use mathlib.Core.List.{List}
 use lib.IntN.{ℤ}
@@ -12,8 +12,5 @@ abbrev pub in_work : List ℤ → ℤ → ℤ → Filter
 in_work s tmp n = record { sAR2_Q14 = s; tmp = tmp; n_AR_Q14 = n }
 
 abbrev pub invariant-loop-j : goal.invariant-loop-j
-invariant-loop-j l = (l.j + 1 ≤ l.order)
+invariant-loop-j l = (l.j ≤ l.last)
     × (in_work l.s l.tmp l.n ≡ iter (turn l.ar l.warping) l.j (begin l.initial.s l.order l.warping l.diff))
-
-abbrev pub decreases-loop-j : goal.decreases-loop-j
-decreases-loop-j l = l.order - l.j

@@ -1,21 +1,24 @@
 -- `wav_file::find::data_answer` meets its contract: at each return the tests that led there say which it is. Assumes nothing.
-use mathlib.Core.Path.{sym, ◌∙◌}
+use mathlib.Core.Path.{sym, ap, ◌∙◌}
 use native.Mathlib.Omega.{arith}
-use Rattle.wav_file.proofs.Gives.{data-none, data-odd, data-even, data-at-fits}
+use Rattle.std.specs.Prelude.{Ok}
+use Rattle.wav_file.proofs.Gives.{no_place, at_place, data-none, data-odd, data-even, data-at-fits}
 use Rattle.wav_file.proofs.find.data_answer.Goals as goal
 
-pub returns-then-body-eq0 : goal.returns-then-body-eq0
-returns-then-body-eq0 c =
-    data-none c.args.file.now (sym c.requires.place ∙ c.if-body-eq0.true)
+pub returns-in_default : goal.returns-in_default
+returns-in_default c = let d = c.in_default.is in data-none c.args.file.now (no_place _ (sym c.in_default.is ∙ c.requires.place))
 
 pub size_at-size-requires : goal.size_at-size-requires
 size_at-size-requires c =
-    omega (arith, c.requires.place, data-at-fits c.args.file.now c.requires.whole (λ e. c.if-body-eq0.false (c.requires.place ∙ e)))
+    let k = at_place _ _ (sym c.in-Some.is ∙ c.requires.place) in
+    omega (arith, k.0, data-at-fits c.args.file.now c.requires.whole k.1)
 
 pub returns-then-size-eq1 : goal.returns-then-size-eq1
 returns-then-size-eq1 c =
-    data-odd c.args.file.now (λ e. c.if-body-eq0.false (c.requires.place ∙ e)) (omega (arith, rw c.requires.place at c.size_at-size.ensures.value, c.if-size-eq1.true))
+    let k = at_place _ _ (sym c.in-Some.is ∙ c.requires.place) in
+    data-odd c.args.file.now k.1 (omega (arith, rw k.0 at c.size_at-size.ensures.value, c.if-size-eq1.true))
 
 pub returns : goal.returns
 returns c =
-    data-even c.args.file.now (λ e. c.if-body-eq0.false (c.requires.place ∙ e)) (λ k. c.if-size-eq1.false (omega (arith, rw c.requires.place at c.size_at-size.ensures.value)))
+    let k = at_place _ _ (sym c.in-Some.is ∙ c.requires.place) in
+    ap Ok k.0 ∙ data-even c.args.file.now k.1 (λ e. c.if-size-eq1.false (omega (arith, rw k.0 at c.size_at-size.ensures.value)))

@@ -1,32 +1,36 @@
 -- `wav_file::find::format_answer` meets its contract: at each return the tests that led there say which it is. Assumes nothing.
-use mathlib.Core.Path.{sym, ◌∙◌}
+use mathlib.Core.Path.{sym, ap, ◌∙◌}
 use native.Mathlib.Omega.{arith}
 use mathlib.Core.Bool.{true, false}
-use Rattle.wav_file.proofs.Gives.{format-none, format-short, format-sound, format-at-fits}
+use Rattle.std.specs.Prelude.{Ok}
+use Rattle.wav_file.proofs.Gives.{no_place, at_place, format-none, format-short, format-sound, format-at-fits}
 use Rattle.wav_file.proofs.find.format_answer.Goals as goal
 
-pub returns-then-format-eq0 : goal.returns-then-format-eq0
-returns-then-format-eq0 c =
-    format-none c.args.file.now (sym c.requires.place ∙ c.if-format-eq0.true)
+pub returns-in_default : goal.returns-in_default
+returns-in_default c = format-none c.args.file.now (no_place _ (sym c.in_default.is ∙ c.requires.place))
 
 pub size_at-requires : goal.size_at-requires
 size_at-requires c =
-    omega (arith, c.requires.place, format-at-fits c.args.file.now c.requires.whole (λ e. c.if-format-eq0.false (c.requires.place ∙ e)))
+    let k = at_place _ _ (sym c.in-Some.is ∙ c.requires.place) in
+    omega (arith, k.0, format-at-fits c.args.file.now c.requires.whole k.1)
 
 pub returns-then-size_at-lt16 : goal.returns-then-size_at-lt16
 returns-then-size_at-lt16 c =
-    format-short c.args.file.now (λ e. c.if-format-eq0.false (c.requires.place ∙ e)) (rw (c.size_at.ensures.value, c.requires.place) at c.if-size_at-lt16.true)
+    let k = at_place _ _ (sym c.in-Some.is ∙ c.requires.place) in
+    format-short c.args.file.now k.1 (rw (c.size_at.ensures.value, k.0) at c.if-size_at-lt16.true)
 
 pub other_sound-requires : goal.other_sound-requires
 other_sound-requires c =
-    omega (arith, c.requires.place, rw c.requires.place at c.size_at.ensures.value, c.if-size_at-lt16.false, format-at-fits c.args.file.now c.requires.whole (λ e. c.if-format-eq0.false (c.requires.place ∙ e)))
+    let k = at_place _ _ (sym c.in-Some.is ∙ c.requires.place) in
+    omega (arith, k.0, rw k.0 at c.size_at.ensures.value, c.if-size_at-lt16.false, format-at-fits c.args.file.now c.requires.whole k.1)
 
 pub returns-then-other_sound : goal.returns-then-other_sound
 returns-then-other_sound c =
-    format-sound c.args.file.now true (λ e. c.if-format-eq0.false (c.requires.place ∙ e)) (rw (c.size_at.ensures.value, c.requires.place) at c.if-size_at-lt16.false)
-    (rw c.requires.place at (sym c.other_sound.ensures ∙ c.if-other_sound.true))
+    let k = at_place _ _ (sym c.in-Some.is ∙ c.requires.place) in
+    format-sound c.args.file.now true k.1 (rw (c.size_at.ensures.value, k.0) at c.if-size_at-lt16.false) (rw k.0 at (sym c.other_sound.ensures ∙ c.if-other_sound.true))
 
 pub returns : goal.returns
 returns c =
-    format-sound c.args.file.now false (λ e. c.if-format-eq0.false (c.requires.place ∙ e)) (rw (c.size_at.ensures.value, c.requires.place) at c.if-size_at-lt16.false)
-    (rw c.requires.place at (sym c.other_sound.ensures ∙ c.if-other_sound.false))
+    let k = at_place _ _ (sym c.in-Some.is ∙ c.requires.place) in
+    ap Ok k.0
+    ∙ format-sound c.args.file.now false k.1 (rw (c.size_at.ensures.value, k.0) at c.if-size_at-lt16.false) (rw k.0 at (sym c.other_sound.ensures ∙ c.if-other_sound.false))

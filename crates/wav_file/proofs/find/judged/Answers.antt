@@ -1,66 +1,66 @@
 -- `wav_file::find::judged` meets its contract: the numbers one after the other, by the laws of `Gives`. Assumes nothing.
 use mathlib.Core.Path.{sym, ◌∙◌}
 use native.Mathlib.Omega.{arith}
+use Rattle.std.proofs.lemmas.Result.{err_from_is_err_and}
 use Rattle.wav_file.specs.Find.{accepted}
-use Rattle.wav_file.proofs.Gives.{marked, runs, give3, give-format, give-data, give0, format-room, data-room}
+use Rattle.wav_file.proofs.Gives.{marked, give-format, give-data, give0, format-room, data-room}
 use Rattle.wav_file.proofs.find.judged.Goals as goal
 
-pub returns-then-past : goal.returns-then-past
-returns-then-past c =
-    let f = c.args.file.now in
-    c.refused.ensures ∙ sym (give3 f c.requires.short c.requires.wave (runs f c.args.m c.requires.marks c.if-past.true))
-
-pub format_answer-by_format-requires : goal.format_answer-by_format-requires
-format_answer-by_format-requires c =
-    let k = marked c.args.file.now c.args.m c.requires.marks c.if-past.false in
+pub format_answer-requires : goal.format_answer-requires
+format_answer-requires c =
+    let k = marked c.args.file.now c.args.m c.requires.marks in
     record { whole = k.no3; place = k.format }
 
-pub returns-then-by_format-ne0 : goal.returns-then-by_format-ne0
-returns-then-by_format-ne0 c =
+pub returns-in_err-format : goal.returns-in_err-format
+returns-in_err-format c =
     let f = c.args.file.now in
-    let k = marked f c.args.m c.requires.marks c.if-past.false in
-    c.refused-then-by_format-ne0.ensures ∙ sym (give-format f c.requires.short c.requires.wave k.no3 _ c.format_answer-by_format.ensures c.if-by_format-ne0.true)
+    let k = marked f c.args.m c.requires.marks in
+    let p = err_from_is_err_and c.from_residual.result c.from_residual.ensures.1 in
+    rw (p.1, p.2) (give-format f c.requires.short c.requires.wave k.no3 _ (sym (c.in_err-format.was) ∙ c.format_answer.ensures))
 
-pub data_answer-by_data-requires : goal.data_answer-by_data-requires
-data_answer-by_data-requires c =
-    let k = marked c.args.file.now c.args.m c.requires.marks c.if-past.false in
+pub data_answer-requires : goal.data_answer-requires
+data_answer-requires c =
+    let k = marked c.args.file.now c.args.m c.requires.marks in
     record { whole = k.no3; place = k.body }
 
-pub returns-then-by_data-ne0 : goal.returns-then-by_data-ne0
-returns-then-by_data-ne0 c =
+pub returns-in_err-body : goal.returns-in_err-body
+returns-in_err-body c =
     let f = c.args.file.now in
-    let k = marked f c.args.m c.requires.marks c.if-past.false in
-    c.refused-then-by_data-ne0.ensures
-    ∙ sym (give-data f c.requires.short c.requires.wave k.no3 (sym c.format_answer-by_format.ensures ∙ c.if-by_format-ne0.false) _ c.data_answer-by_data.ensures c.if-by_data-ne0.true)
+    let k = marked f c.args.m c.requires.marks in
+    let p = err_from_is_err_and c.from_residual-in_err-body.result c.from_residual-in_err-body.ensures.1 in
+    rw (p.1, p.2)
+    (give-data f c.requires.short c.requires.wave k.no3 _ (sym (c.in_ok-format.was) ∙ c.format_answer.ensures) _ (sym (c.in_err-body.was) ∙ c.data_answer.ensures))
 
-pub size_at-size-requires : goal.size_at-size-requires
-size_at-size-requires c =
+pub size_at-length-requires : goal.size_at-length-requires
+size_at-length-requires c =
     let f = c.args.file.now in
-    let k = marked f c.args.m c.requires.marks c.if-past.false in
-    omega (arith, k.body, data-room f k.no3 (sym c.data_answer-by_data.ensures ∙ c.if-by_data-ne0.false))
+    let k = marked f c.args.m c.requires.marks in
+    omega (arith, (data-room f _ k.no3 (sym (c.in_ok-body.was) ∙ c.data_answer.ensures)).1)
 
 pub overflow_add-format : goal.overflow_add-format
 overflow_add-format c =
     let f = c.args.file.now in
-    let k = marked f c.args.m c.requires.marks c.if-past.false in
-    omega (arith, c.requires.short, k.format, format-room f k.no3 (sym c.format_answer-by_format.ensures ∙ c.if-by_format-ne0.false))
+    let k = marked f c.args.m c.requires.marks in
+    omega (arith, c.requires.short, (format-room f _ k.no3 (sym (c.in_ok-format.was) ∙ c.format_answer.ensures)).1)
 
 pub word32-rate-requires : goal.word32-rate-requires
 word32-rate-requires c =
     let f = c.args.file.now in
-    let k = marked f c.args.m c.requires.marks c.if-past.false in
-    omega (arith, k.format, format-room f k.no3 (sym c.format_answer-by_format.ensures ∙ c.if-by_format-ne0.false))
+    let k = marked f c.args.m c.requires.marks in
+    omega (arith, (format-room f _ k.no3 (sym (c.in_ok-format.was) ∙ c.format_answer.ensures)).1)
 
 pub overflow_add-result : goal.overflow_add-result
 overflow_add-result c =
     let f = c.args.file.now in
-    let k = marked f c.args.m c.requires.marks c.if-past.false in
-    omega (arith, c.requires.short, k.body, data-room f k.no3 (sym c.data_answer-by_data.ensures ∙ c.if-by_data-ne0.false))
+    let k = marked f c.args.m c.requires.marks in
+    omega (arith, c.requires.short, (data-room f _ k.no3 (sym (c.in_ok-body.was) ∙ c.data_answer.ensures)).1)
 
 pub returns : goal.returns
 unfolding accepted
 returns c =
     let f = c.args.file.now in
-    let k = marked f c.args.m c.requires.marks c.if-past.false in
-    rw (c.size_at-size.ensures.value, c.word32-rate.ensures, k.body, k.format)
-    (sym (give0 f c.requires.short c.requires.wave k.no3 (sym c.format_answer-by_format.ensures ∙ c.if-by_format-ne0.false) (sym c.data_answer-by_data.ensures ∙ c.if-by_data-ne0.false)))
+    let k = marked f c.args.m c.requires.marks in
+    let s = sym (c.in_ok-format.was) ∙ c.format_answer.ensures in
+    let d = sym (c.in_ok-body.was) ∙ c.data_answer.ensures in
+    rw (c.size_at-length.ensures.value, c.word32-rate.ensures, (data-room f _ k.no3 d).0, (format-room f _ k.no3 s).0)
+    (give0 f c.requires.short c.requires.wave k.no3 _ s _ d)

@@ -3,15 +3,15 @@ use mathlib.Core.Path.{sym, ◌∙◌}
 use Rattle.wav_file.proofs.Gives.{too_short}
 use Rattle.wav_file.specs.Find.{not_wave}
 use Rattle.wav_file.proofs.find.not_wave.Goals as goal
+use Rattle.wav_file.proofs.find.not_wave.Goals.{then-named, else-named}
 
 pub returns-then-file-lt12 : goal.returns-then-file-lt12
 returns-then-file-lt12 c = sym (too_short c.args.file.now c.if-file-lt12.true)
 
-pub returns-then-not-named : goal.returns-then-not-named
-unfolding not_wave
-returns-then-not-named c = rw (sym c.named.ensures ∙ c.if-not-named.true)
-
 pub returns : goal.returns
 unfolding not_wave
 returns c =
-    rw (sym c.named.ensures ∙ c.if-not-named.false, c.named-2.ensures)
+    elim c.if-named.branch [
+      | then-named w ↦ rw (w.wave-is, w.named-wave.ensures, sym c.named.ensures ∙ w.if-named.true)
+      | else-named w ↦ rw (w.wave-is, w.if-named.false, sym c.named.ensures ∙ w.if-named.false)
+    ]

@@ -1,24 +1,31 @@
 -- `wav_file::find::other_sound` meets its contract: one test for each field. Assumes nothing.
-use mathlib.Core.Path.{sym, ◌∙◌}
+use mathlib.Core.Path.{◌≡◌}
+use mathlib.Core.Bool.{◌&&◌}
+use lib.Dec.{eqb}
 use borrow.Author.Tests.{eq-eqb, ne_eqb}
 use Rattle.wav_file.specs.Find.{other_sound}
+use Rattle.wav_file.proofs.Gives.{two-and-two}
 use Rattle.wav_file.proofs.find.other_sound.Goals as goal
-
-pub returns-then-word16-ne1 : goal.returns-then-word16-ne1
-unfolding other_sound
-returns-then-word16-ne1 c = rw (← c.word16.ensures.value, ne_eqb _ _ c.if-word16-ne1.true)
-
-pub returns-then-word16-ne1-2 : goal.returns-then-word16-ne1-2
-unfolding other_sound
-returns-then-word16-ne1-2 c =
-    rw (← c.word16.ensures.value, eq-eqb _ _ c.if-word16-ne1.false, ← c.word16-2.ensures.value, ne_eqb _ _ c.if-word16-ne1-2.true)
-
-pub returns-then-not-rate_allowed : goal.returns-then-not-rate_allowed
-unfolding other_sound
-returns-then-not-rate_allowed c =
-    rw (← c.word16.ensures.value, eq-eqb _ _ c.if-word16-ne1.false, ← c.word16-2.ensures.value, eq-eqb _ _ c.if-word16-ne1-2.false, ← c.word32.ensures, sym c.rate_allowed.ensures ∙ c.if-not-rate_allowed.true)
+use Rattle.wav_file.proofs.find.other_sound.Goals.{then-coding-eq1, else-coding-eq1, then-rate_allowed, else-rate_allowed, then-mono, else-mono}
 
 pub returns : goal.returns
 unfolding other_sound
 returns c =
-    rw (← c.word16.ensures.value, eq-eqb _ _ c.if-word16-ne1.false, ← c.word16-2.ensures.value, eq-eqb _ _ c.if-word16-ne1-2.false, ← c.word32.ensures, sym c.rate_allowed.ensures ∙ c.if-not-rate_allowed.false, ← c.word16-3.ensures.value)
+    let coding = c.word16-coding in
+    let channels = c.word16-channels in
+    let rate = c.word32-rate in
+    let width = c.word16-width in
+    let allowed = c.rate_allowed.ensures in
+    let m : c.if-coding-eq1.mono ≡ eqb coding.result 1 && eqb channels.result 1 =
+    elim c.if-coding-eq1.branch [
+      | then-coding-eq1 w ↦ rw (w.mono-is, eq-eqb _ _ w.if-coding-eq1.true)
+      | else-coding-eq1 w ↦ rw (w.mono-is, ne_eqb _ _ w.if-coding-eq1.false)
+    ] in
+    let p : c.if-rate_allowed.plain ≡ c.rate_allowed.result && eqb width.result 16 =
+    elim c.if-rate_allowed.branch [
+      | then-rate_allowed w ↦ rw (w.plain-is, w.if-rate_allowed.true)
+      | else-rate_allowed w ↦ rw (w.plain-is, w.if-rate_allowed.false)
+    ] in
+    let r : c.if-mono.result ≡ c.if-coding-eq1.mono && c.if-rate_allowed.plain =
+    elim c.if-mono.branch [ then-mono w ↦ rw (w.result-is, w.if-mono.true) | else-mono w ↦ rw (w.result-is, w.if-mono.false) ] in
+    rw (r, m, p, allowed, two-and-two, ← coding.ensures.value, ← channels.ensures.value, ← rate.ensures, ← width.ensures.value)

@@ -1,12 +1,7 @@
 -- `wav_file::samples::fill` meets its contract: the loop's invariant: the first i samples stand in the row, and behind them the row is as it was. Assumes nothing.
 use mathlib.Core.Path.{◌≡◌}
-use Prim.Native.Nat.{◌-◌, ◌≤◌}
-use lib.ListN.{length}
 use Rattle.wav_file.proofs.Rows.{row_at}
 use Rattle.wav_file.proofs.samples.fill.Given as goal
 
 abbrev pub invariant-loop-i : goal.invariant-loop-i
-invariant-loop-i l = (l.i ≤ l.n) × (l.n ≡ length l.initial.row) × (l.row ≡ row_at l.bytes l.initial.row l.i)
-
-abbrev pub decreases-loop-i : goal.decreases-loop-i
-decreases-loop-i l = l.n - l.i
+invariant-loop-i l = l.row ≡ row_at l.bytes l.initial.row l.i

@@ -2,19 +2,20 @@
 use mathlib.Core.Path.{ap, ◌∙◌}
 use mathlib.Core.List.{List}
 use native.Mathlib.Omega.{arith}
-use lib.IntN.{ℤ, pos}
-use lib.ListN.{length}
-use Rattle.pages.specs.Page.{page, puts}
-use Rattle.sheet_text.specs.Text.{line_of, pulse_lines}
-use Rattle.wav_page.specs.Text.{samples_word, sound_text}
-use Rattle.wav_page.proofs.Texts.{sound-puts, row-filled}
+use lib.IntN.{ℤ}
+use Rattle.std.proofs.lemmas.List.{map-id}
+use Rattle.pages.proofs.Pages.{added_then, added_as}
+use Rattle.wav_page.specs.Text.{sound_text}
+use Rattle.wav_page.proofs.Texts.{sound-as, row-filled, is-filled}
 use Rattle.wav_page.proofs.page.shown.Goals as goal
+
+pub unwrap-requires : goal.unwrap-requires
+unwrap-requires c = let a = c.args in is-filled c.fill.result a.part.now a.row.now _ c.requires.0 c.fill.ensures
 
 pub returns : goal.returns
 returns c =
     let a = c.args in
     let row = c.fill.new.row in
-    c.sample_lines.ensures
-    ∙ ap (puts (pulse_lines (length row) 0 row)) (c.number_line-b.ensures ∙ ap (puts (line_of samples_word (pos _))) c.number_line-a.ensures)
-    ∙ sound-puts a.rate _ row (page 0 a.page.now) (omega arith)
-    ∙ ap (λ (zs : List ℤ). puts (sound_text a.rate zs) (page 0 a.page.now)) (row-filled a.part.now a.row.now row _ c.requires.0 c.fill.ensures)
+    added_as
+    (sound-as a.rate _ row (omega arith) ∙ ap (λ (zs : List ℤ). sound_text a.rate zs) (row-filled a.part.now a.row.now row _ c.requires.0 c.fill.ensures))
+    (added_then _ _ (added_then _ _ c.number_line.ensures c.number_line-2.ensures) (rw (map-id row) at c.value_lines.ensures))

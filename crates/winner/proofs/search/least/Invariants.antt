@@ -1,12 +1,6 @@
 -- `winner::search::least` meets its contract. Assumes nothing.
-use mathlib.Core.Path.{◌≡◌}
-use Prim.Native.Nat.{◌≤◌, ◌<◌, ◌-◌}
-use Rattle.fixed.specs.Iter.{iter}
-use Rattle.winner.specs.Winner.{least_turn}
+use Rattle.winner.specs.Winner.{cheaper}
 use Rattle.winner.proofs.search.least.Given as goal
 
-abbrev pub invariant-loop-k : goal.invariant-loop-k
-invariant-loop-k l = ((l.k ≤ l.n) × (l.w < l.n)) × (l.w ≡ iter (least_turn l.c l.m) l.k 0)
-
-abbrev pub decreases-loop-k : goal.decreases-loop-k
-decreases-loop-k l = l.n - l.k
+abbrev pub ghost-first_best : goal.ghost-first_best
+ghost-first_best a = cheaper a.beats.0.now a.beats.1.now

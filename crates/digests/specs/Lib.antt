@@ -1,0 +1,2 @@
+-- Fnv: the steps of the two digests.
+pub mod Fnv

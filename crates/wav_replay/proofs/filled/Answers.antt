@@ -1,9 +1,0 @@
--- `wav_replay::filled` meets its contract: what it writes is within the page. Assumes nothing.
-use Rattle.pages.proofs.Pages.{puts-used}
-use Rattle.std.proofs.Common.{rules}
-use Rattle.wav_replay.proofs.filled.Goals as goal
-
-pub slice_bounds-write_all-end : goal.slice_bounds-write_all-end
-slice_bounds-write_all-end c =
-    let within = puts-used _ _ _ _ c.sample_lines-used.ensures in
-    search rules

@@ -1,9 +1,0 @@
--- `wav_replay::main` meets its contract. Assumes nothing.
-use Prim.Native.Nat.{◌≤◌, ◌-◌}
-use Rattle.wav_replay.proofs.main.Given as goal
-
-abbrev pub invariant-loop-k : goal.invariant-loop-k
-invariant-loop-k l = l.k ≤ 1024
-
-abbrev pub decreases-loop-k : goal.decreases-loop-k
-decreases-loop-k l = 1024 - l.k
