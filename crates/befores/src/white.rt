@@ -31,12 +31,12 @@ fn rewhitened(
 pub fn whitened(
     ltp: &mut [i32; 640],
     sltp: &mut [i16; 640],
-    xq: &[i16; 640],
+    xq: &[i16],
     a: &[i16],
     f: Fix,
     inv: i32,
 )
-    requires { (Fits f × Room f) × (f.predictLPCOrder ≤ length a.now) }
+    requires { (Fits f × Room f) × ((f.predictLPCOrder ≤ length a.now) × (640 ≤ length xq.now)) }
     ensures row { sltp.new ≡ rewhitened_at f a.now xq.now sltp.old }
     ensures work { ltp.new ≡ filled inv (rewhitened_at f a.now xq.now sltp.old) (4 * f.subfr_length - f.lag - 2) (f.lag + 2) ltp.old }
 {
@@ -54,12 +54,12 @@ pub fn whitened_first(
     rewhite: bool,
     ltp: &mut [i32; 640],
     sltp: &mut [i16; 640],
-    xq: &[i16; 640],
+    xq: &[i16],
     a: &[i16],
     f: Fix,
     inv: i32,
 )
-    requires { (Fits f × Room f) × (f.predictLPCOrder ≤ length a.now) }
+    requires { (Fits f × Room f) × ((f.predictLPCOrder ≤ length a.now) × (640 ≤ length xq.now)) }
     ensures row { sltp.new ≡ either rewhite (rewhitened_at f a.now xq.now sltp.old) sltp.old }
     ensures work { ltp.new ≡ either rewhite (filled inv (rewhitened_at f a.now xq.now sltp.old) (4 * f.subfr_length - f.lag - 2) (f.lag + 2) ltp.old) ltp.old }
 {
