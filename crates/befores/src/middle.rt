@@ -15,7 +15,17 @@ fn middle(w: &mut Work, pulses: &mut [i8], n: usize, l: usize, d: usize, gain: i
     ensures kept { (w.new.chosen ≡ w.old.chosen) × (w.new.smpl_buf_idx ≡ w.old.smpl_buf_idx) }
 {
     let win = ends::best(w.states.owns, n);
-    ends::flushed(w, pulses, win, Fit::Middle(gain), 4 * l, d, 2 * l);
+    ends::flushed(
+        &mut w.xq,
+        &mut w.sLTP_shp_Q14,
+        pulses,
+        &w.states.rings[win],
+        Fit::Middle(gain),
+        4 * l,
+        d,
+        2 * l,
+        w.smpl_buf_idx,
+    );
     ends::others_raised(&mut w.states.owns, win, n);
 }
 

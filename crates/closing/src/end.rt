@@ -106,7 +106,18 @@ pub fn ended(
     let own = owns[w];
     let all = times(g.nb_subfr, g.subfr_length);
     let start = 4 * g.subfr_length;
-    ends::flushed(&mut t.work, pulses, w, Fit::Last(last), start, g.delay, all);
+    let work = &mut t.work;
+    ends::flushed(
+        &mut work.xq,
+        &mut work.sLTP_shp_Q14,
+        pulses,
+        &work.states.rings[w],
+        Fit::Last(last),
+        start,
+        g.delay,
+        all,
+        work.smpl_buf_idx,
+    );
     let unlike = report::differ(pulses, &t.work.chosen[w], all);
     let count = unlike as i32;
     let state = left(g, lag, words, &t, w);

@@ -1,10 +1,6 @@
 -- Each contract leaves one outcome: two that meet it have equal results, and every row is left with equal words.
 -- Assumes nothing.
-use Prim.Native.Nat.{ℕ}
 use mathlib.Core.Path.{◌≡◌, sym, ◌∙◌, ap}
-use mathlib.Core.List.{List}
-use lib.IntN.{ℤ}
-use Rattle.path.specs.Data.{States, Work}
 use Rattle.steps.specs.Flush.{Outs}
 use Rattle.edges.proofs.ends.best.Reads as best
 use Rattle.edges.proofs.ends.flushed.Reads as flushed
@@ -16,25 +12,9 @@ others-raised-unique κs a r s e f p q = p ∙ sym q
 pub best-unique : (κs a r s e f : _) → best.Post κs a r e → best.Post κs a s f → r ≡ s
 best-unique κs a r s e f p q = p.0 ∙ sym q.0
 
--- a subframe in work, of its rows
-abbrev made : States → List (List ℤ) → List ℤ → List ℤ → ℕ → List ℤ → List ℤ → Work
-made s chosen ltp dgain r xq shp =
-    record { states = s; chosen = chosen; sLTP_Q15 = ltp; delayedGain_Q10 = dgain; smpl_buf_idx = r; xq = xq; sLTP_shp_Q14 = shp }
-
--- two are equal where each of their rows is
-all-words : (w v : Work) → w.states ≡ v.states → w.chosen ≡ v.chosen → w.sLTP_Q15 ≡ v.sLTP_Q15 → w.delayedGain_Q10 ≡ v.delayedGain_Q10
-    → w.smpl_buf_idx ≡ v.smpl_buf_idx → w.xq ≡ v.xq → w.sLTP_shp_Q14 ≡ v.sLTP_shp_Q14 → w ≡ v
-all-words w v a b c d e f g =
-    let all : made w.states w.chosen w.sLTP_Q15 w.delayedGain_Q10 w.smpl_buf_idx w.xq w.sLTP_shp_Q14
-    ≡ made v.states v.chosen v.sLTP_Q15 v.delayedGain_Q10 v.smpl_buf_idx v.xq v.sLTP_shp_Q14 = cc in
-    all
-
--- all that a subframe works on, and the pulses at exit
-pub flushed-unique : (κs a r s e f : _) → flushed.Post κs a r e → flushed.Post κs a s f → (e.0.now ≡ f.0.now) × (e.1.0.now ≡ f.1.0.now)
+-- the histories and the pulses
+pub flushed-unique : (κs a r s e f : _) → flushed.Post κs a r e → flushed.Post κs a s f →
+    (e.0.now ≡ f.0.now) × (e.1.0.now ≡ f.1.0.now) × (e.1.1.0.now ≡ f.1.1.0.now)
 flushed-unique κs a r s e f p q =
-    let same = p.0 ∙ sym q.0 in
-    let k = p.1 in
-    let l = q.1 in (
-      all-words e.0.now f.0.now (k.0.0 ∙ sym l.0.0) (k.0.1 ∙ sym l.0.1) (k.1.0 ∙ sym l.1.0) (k.1.1.0 ∙ sym l.1.1.0) (k.1.1.1 ∙ sym l.1.1.1) (ap (λ (o : Outs). o.xq) same) (ap (λ (o : Outs). o.sLTP_shp_Q14) same),
-      ap (λ (o : Outs). o.pulses) same,
-    )
+    let same = p ∙ sym q in
+    (ap (λ (o : Outs). o.xq) same, ap (λ (o : Outs). o.sLTP_shp_Q14) same, ap (λ (o : Outs). o.pulses) same)

@@ -8,7 +8,7 @@ ghost use Rattle.edges.specs.Fits.{fit_by};
 
 use fixed::wrap;
 use noise::output;
-use path::structs::{Path, Q_Q10, SHAPE_Q14, Work, XQ_Q14};
+use path::structs::{Path, Q_Q10, SHAPE_Q14, XQ_Q14};
 use shifts::shift;
 use winner::search;
 
@@ -80,24 +80,30 @@ impl Fit {
     }
 }
 
-// The last d samples of path k handed out, when g samples of the frame are done: h is where the frame starts in the histories. By a number, since the
-// ring's places go round while those of three rows go up.
-pub fn flushed(w: &mut Work, pulses: &mut [i8], k: usize, fit: Fit, h: usize, d: usize, g: usize)
-    requires { ((d ≤ g) × (h + g ≤ 640)) × ((g ≤ length pulses.old) × ((w.old.smpl_buf_idx < 40) × (k < 4))) }
-    ensures words { outs w.new.xq w.new.sLTP_shp_Q14 pulses.new
-        ≡ flushed_z h (get_or w.old.states.rings k []) (fit_by fit) d g w.old.smpl_buf_idx (outs w.old.xq w.old.sLTP_shp_Q14 pulses.old) }
-    ensures kept { ((w.new.states ≡ w.old.states) × (w.new.chosen ≡ w.old.chosen))
-        × ((w.new.sLTP_Q15 ≡ w.old.sLTP_Q15) × ((w.new.delayedGain_Q10 ≡ w.old.delayedGain_Q10) × (w.new.smpl_buf_idx ≡ w.old.smpl_buf_idx))) }
+// The winner's last d samples handed out, when g samples of the frame are done: h is where the frame starts in the histories, r the ring's place. By a
+// number, since the ring's places go round while those of three rows go up.
+pub fn flushed(
+    xq: &mut [i16; 640],
+    shp: &mut [i32; 640],
+    pulses: &mut [i8],
+    ring: &[[i32; 40]; 5],
+    fit: Fit,
+    h: usize,
+    d: usize,
+    g: usize,
+    r: usize,
+)
+    requires { ((d ≤ g) × (h + g ≤ 640)) × ((g ≤ length pulses.old) × (r < 40)) }
+    ensures { outs xq.new shp.new pulses.new ≡ flushed_z h ring.now (fit_by fit) d g r (outs xq.old shp.old pulses.old) }
 {
-    let r = w.smpl_buf_idx;
     for i in 0..d {
         let last = (r + d - 1 - i) % 40;
         let p = g - d + i;
-        let x = ring_at(&w.states.rings[k], XQ_Q14, last);
-        let shape = ring_at(&w.states.rings[k], SHAPE_Q14, last);
-        let q = ring_at(&w.states.rings[k], Q_Q10, last);
-        w.xq[h + p] = fit.fitted(x);
-        w.sLTP_shp_Q14[h + p] = shape;
+        let x = ring_at(ring, XQ_Q14, last);
+        let shape = ring_at(ring, SHAPE_Q14, last);
+        let q = ring_at(ring, Q_Q10, last);
+        xq[h + p] = fit.fitted(x);
+        shp[h + p] = shape;
         pulses[p] = output::pulse_of(q);
     }
 }

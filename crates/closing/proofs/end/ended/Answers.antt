@@ -24,13 +24,12 @@ returns c =
     let row = get_or a.t.work.states.lpcs win [] in
     let after : Outs → Done = λ o. handed_out a.g a.lag a.words a.t.prev own row o in
     let e = rw (c.times-all.ensures.0, read c.ranges.last) at c.flushed.ensures in
-    let k = e.kept in
     let init = (path own c.struct_told-1.given).init in
-    let state = rw (k.0.0, read c.ranges.lag) at c.left-state.ensures in
-    let unlike = rw (k.0.1, c.times-all.ensures.0) at c.differ-unlike.ensures.0 in
+    let state = rw (read c.ranges.lag) at c.left-state.ensures in
+    let unlike = rw (c.times-all.ensures.0) at c.differ-unlike.ensures.0 in
     let small : c.differ-unlike.result < 2 ^ 31 = omega (arith, c.differ-unlike.ensures.1, c.times-all.ensures.1) in
     let ended : ℕ → Done = λ j. ended_with a.g a.last a.lag a.words (framed_at a.t a.pulses.now) j in
     record {
-      words = rw (init, state) (ap after e.words ∙ ap ended c.best-w.ensures.0);
+      words = rw (init, state) (ap after e ∙ ap ended c.best-w.ensures.0);
       report = rw (to_z_pos w32 small, unlike, c.best-w.ensures.0);
     }
