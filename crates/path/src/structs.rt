@@ -119,7 +119,7 @@ pub struct Sampled {
 
 // All paths with their long rows, `psDelDec`: their short words, their LPC words, their five rings. L and R are always the rows named here;
 // as parameters they let `of` make the struct, since the check doesn't follow a literal with a row of rows in it.
-#[derive(Drop)]
+#[derive(Clone, Copy, Drop)]
 pub struct States<L: Drop = [[i32; 96]; 4], R: Drop = [[[i32; 40]; 5]; 4]> {
     pub owns: [Path; 4],
     pub lpcs: L,
@@ -127,7 +127,7 @@ pub struct States<L: Drop = [[i32; 96]; 4], R: Drop = [[[i32; 40]; 5]; 4]> {
 }
 
 // A subframe in work, but its pulses, which are the caller's. C is always the row named here, as in `States`.
-#[derive(Drop)]
+#[derive(Clone, Copy, Drop)]
 pub struct Work<C: Drop = [[i8; 320]; 4]> {
     pub states: States,
     // the pulses that each path has chosen in this frame
@@ -141,7 +141,7 @@ pub struct Work<C: Drop = [[i8; 320]; 4]> {
 }
 
 // A frame in work: a subframe's rows, the filtered history, and the gain of the subframe before.
-#[derive(Drop)]
+#[derive(Clone, Copy)]
 pub struct Frame {
     pub work: Work,
     pub sLTP: [i16; 640],
