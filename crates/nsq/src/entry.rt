@@ -10,10 +10,10 @@ ghost use Rattle.steps.specs.Entry.{outcome, handed, reported};
 ghost use Rattle.steps.specs.Report.{report};
 
 use coding::accepted;
-use refusal_rules::answer::{Refusal, Sizes};
+use refusal_rules::answer::Sizes;
 use refusals::check;
 use silk::structs::{NsqState, Settings};
-use steps::structs::{Coded, Inputs};
+use steps::structs::{Coded, Inputs, Refused};
 
 // How long the rows of a call are, one by one as the entry is lent them.
 fn sizes(
@@ -42,8 +42,8 @@ fn sizes(
     }
 }
 
-// `silk_NSQ_del_dec_c`. Whatever it is given: accepted, the next seed and state and the report come back; or why it is refused, and then
-// no pulse is touched, and the seed and the state are still those given. The rows are parameters of their own, as the interface for C lends them.
+// `silk_NSQ_del_dec_c`. Whatever it is given: accepted, the next seed and state and the report come back; or why it is refused, with the seed
+// and the state given, and then no pulse is touched. The rows are parameters of their own, as the interface for C lends them.
 pub fn silk_NSQ_del_dec(
     s: Settings,
     state: NsqState,
@@ -57,25 +57,37 @@ pub fn silk_NSQ_del_dec(
     lf: &[i32],
     gains: &[i32],
     lags: &[i32],
-) -> Result<Coded, Refusal>
-    ensures outcome { handed s.Seed state result pulses.new
+) -> Result<Coded, Refused>
+    ensures outcome { handed result pulses.new
         ≡ outcome keeps_first (call_at s state pred.now long.now ar.now harm.now tilt.now lf.now gains.now lags.now) x.now pulses.old }
     ensures report { reported result
         ≡ pos (report keeps_first (call_at s state pred.now long.now ar.now harm.now tilt.now lf.now gains.now lags.now) x.now pulses.old) }
 {
     let z = sizes(x, pulses, pred, long, ar, harm, tilt, lf);
-    check::check(s, z, state.lagPrev, state.prev_gain_Q16, gains, lags)?;
-    let rows = Inputs {
-        x,
-        pred,
-        long,
-        ar,
-        tilt,
-        harm,
-        lf,
-        gains,
-        lags,
-    };
-    let r = accepted::coded(s, state, rows, pulses);
-    Ok(r)
+    match check::check(s, z, state.lagPrev, state.prev_gain_Q16, gains, lags) {
+        Ok(()) => {
+            let rows = Inputs {
+                x,
+                pred,
+                long,
+                ar,
+                tilt,
+                harm,
+                lf,
+                gains,
+                lags,
+            };
+            let r = accepted::coded(s, state, rows, pulses);
+            Ok(Coded {
+                seed: r.seed,
+                state: r.state,
+                report: r.report,
+            })
+        }
+        Err(why) => Err(Refused {
+            why,
+            seed: s.Seed,
+            state,
+        }),
+    }
 }

@@ -44,7 +44,7 @@ fn call(rt: &impl Print, before: Held) -> io::Result<Held> {
     );
     let (number, seed, state) = match r {
         Ok(coded) => (0, coded.seed, coded.state),
-        Err(why) => (why.number(), s.Seed, from.state),
+        Err(refused) => (refused.why.number(), refused.seed, refused.state),
     };
     print::answer(rt, s, number, seed, &state, from.rand_seed, out)?;
     Ok(Held {

@@ -21,7 +21,7 @@ checked-unique κs a r s e p q = p ∙ sym q
 
 -- what is handed back, every word of the state in it, and the pulses
 pub answered-unique : (κs a r s e f : _) → answered.Post κs a r e → answered.Post κs a s f → (r ≡ s) × (e.1.0.now ≡ f.1.0.now)
-answered-unique κs a r s e f p q = one-outcome _ _ (p.0 ∙ sym q.0) (p.1 ∙ sym q.1)
+answered-unique κs a r s e f p q = one-outcome (p.0 ∙ sym q.0) (p.1 ∙ sym q.1)
 
 pub answer-page-unique : (κs a r s e f : _) → answer-page.Post κs a r e → answer-page.Post κs a s f → (r ≡ s) × (e.0.now ≡ f.0.now)
 answer-page-unique κs a r s e f p q = parts r s _ _ (p ∙ sym q)

@@ -9,12 +9,12 @@ ghost use Rattle.sheet_page.specs.Calls.{frame_length, pulses_for, settings_in, 
 
 use limits::count;
 use nsq::entry;
-use refusal_rules::answer::{Answer, Refusal, Sizes};
+use refusal_rules::answer::{Answer, Sizes};
 use refusals::check;
 use sheet_form::sheet;
 use sheet_form::sheet::Sheet;
 use silk::structs::{NsqState, Settings};
-use steps::structs::Coded;
+use steps::structs::{Coded, Refused};
 
 // A count, but no more than the 320 words that a row can have.
 pub fn words_of(count: usize) -> usize
@@ -68,9 +68,8 @@ pub fn checked(read: &Sheet) -> Answer
 }
 
 // The sheet's call from a fresh state, with the pulses in the row that is lent. Path count 0 stands for the default one.
-pub fn answered(read: &Sheet, out: &mut [i8]) -> Result<Coded, Refusal>
-    ensures outcome { handed (defaulted (sheet_call (rows_of read.now))).settings.Seed (defaulted (sheet_call (rows_of read.now))).state result out.new
-        ≡ outcome keeps_first (defaulted (sheet_call (rows_of read.now))) (samples_in (rows_of read.now)) out.old }
+pub fn answered(read: &Sheet, out: &mut [i8]) -> Result<Coded, Refused>
+    ensures outcome { handed result out.new ≡ outcome keeps_first (defaulted (sheet_call (rows_of read.now))) (samples_in (rows_of read.now)) out.old }
     ensures report { reported result ≡ pos (report keeps_first (defaulted (sheet_call (rows_of read.now))) (samples_in (rows_of read.now)) out.old) }
 {
     entry::silk_NSQ_del_dec(

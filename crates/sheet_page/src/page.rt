@@ -20,7 +20,7 @@ fn told(page: &mut [u8], read: &Sheet, out: &mut [i8]) -> usize
 {
     match call::answered(read, out) {
         Ok(coded) => text::answer(page, 0, coded.seed, out),
-        Err(why) => text::answer(page, why.number(), 0, out),
+        Err(refused) => text::answer(page, refused.why.number(), refused.seed, out),
     }
 }
 

@@ -4,13 +4,13 @@ use Rattle.std.specs.Prelude.{List, ℤ, pos, eqb, Result, Ok, Err}
 use Rattle.fixed.specs.Iter.{either}
 use Rattle.silk.specs.declared.structs.NsqState.{NsqState}
 use Rattle.steps.specs.Among.{Rule}
-use Rattle.refusal_rules.specs.declared.answer.Refusal.{Refusal}
 use Rattle.refusal_rules.specs.Code.{Answer, Accepted, code_of}
 use Rattle.refusal_rules.specs.Table.{answer_of}
 use Rattle.steps.specs.Call.{Call}
 use Rattle.steps.specs.Sizes.{sizes_of}
 use Rattle.steps.specs.Frame.{Done, frame}
 use Rattle.steps.specs.declared.structs.Coded.{Coded}
+use Rattle.steps.specs.declared.structs.Refused.{Refused}
 
 -- what comes of a call
 pub record Outcome : Type 0 where
@@ -45,16 +45,16 @@ unfoldable pub outcome : Rule → Call → List ℤ → List ℤ → Outcome
 outcome rule c x out = outcome_by rule c x out (answered c x out)
 
 -- ---- what the code hands back of a call
--- accepted, its seed, its state and its report; refused, why
+-- accepted, its seed, its state and its report; refused, why, and a seed and a state too
 abbrev pub Answered : Type 0
-Answered = Result Coded Refusal
+Answered = Result Coded Refused
 
--- what comes of a call with this seed and this state, by what it hands back: refused, they are as they were
-abbrev pub handed : ℤ → NsqState → Answered → List ℤ → Outcome
-handed seed state (Ok c) out = outcome_of Accepted c.seed c.state out
-handed seed state (Err why) out = outcome_of (Err why) seed state out
+-- what comes of a call, by what it hands back
+abbrev pub handed : Answered → List ℤ → Outcome
+handed (Ok c) out = outcome_of Accepted c.seed c.state out
+handed (Err r) out = outcome_of (Err r.why) r.seed r.state out
 
 -- its report; refused, 0
 abbrev pub reported : Answered → ℤ
 reported (Ok c) = c.report
-reported (Err why) = pos 0
+reported (Err r) = pos 0

@@ -1,5 +1,6 @@
 // What the definition is spoken over beside a path's own words: the settings of a call as counts, what comes before a subframe, and what
 // a call hands back.
+use refusal_rules::answer::Refusal;
 use silk::structs::NsqState;
 
 // The settings of an accepted call, turned once into counts, and what they decide for the whole frame.
@@ -55,4 +56,12 @@ pub struct Coded {
     pub state: NsqState,
     // at how many places the pulses differ from those that the final winner chose itself
     pub report: i32,
+}
+
+// What a refused call hands back: why, and the seed and the state that it was given.
+#[derive(Clone, Copy)]
+pub struct Refused {
+    pub why: Refusal,
+    pub seed: i32,
+    pub state: NsqState,
 }

@@ -43,4 +43,4 @@ returns c =
     let twelve = eq-eqb (length a.settings.now) 12 c.if-settings-ne12.false in
     let long = eq-eqb (length a.samples.now) 640 c.if-samples-ne640.false in
     let whole = eq-eqb (length a.words.now) 767 c.if-words-ne767.false in
-    record { rows = rw (twelve, long, whole) (c.lay.ensures.rows _ _ _ ∙ ap by e); report = rw (twelve, long, whole) (c.lay.ensures.report ∙ k) }
+    record { rows = rw (twelve, long, whole) (c.lay.ensures.rows _ ∙ ap by e); report = rw (twelve, long, whole) (c.lay.ensures.report ∙ k) }

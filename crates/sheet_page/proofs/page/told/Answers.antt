@@ -19,4 +19,4 @@ returns-in-Ok c =
 pub returns-in-Err : goal.returns-in-Err
 returns-in-Err c =
     let a = c.args in
-    c.answer-in-Err.ensures ∙ ap (λ (s : List ℕ). puts s (page 0 a.page.now)) (refused_text _ c.in-Err.why _ _ _ _ _ c.number.ensures c.in-Err.ensures.outcome)
+    c.answer-in-Err.ensures ∙ ap (λ (s : List ℕ). puts s (page 0 a.page.now)) (refused_text _ c.in-Err.refused.why _ _ _ _ _ c.number.ensures c.in-Err.ensures.outcome)
