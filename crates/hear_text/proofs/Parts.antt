@@ -5,10 +5,11 @@ use Prim.Native.Nat.{ℕ}
 use lib.ListN.{length, get_or}
 use lib.IntN.{ℤ, pos}
 use borrow.Author.Tests.{ne_eqb}
-use Rattle.std.specs.Prelude.{Ok, Err}
+use Rattle.std.specs.Prelude.{Result, Ok, Err}
 use Rattle.sheet_form.specs.Sections.{fault, sheet, triple, row, i8}
+use Rattle.sheet_form.specs.Found.{take_section}
 use Rattle.sheet_form.specs.Sheets.{start_rest}
-use Rattle.sheet_form.proofs.Whole.{Led, first-on, first-stop}
+use Rattle.sheet_form.proofs.Whole.{Led, first-on, first-stop, first-took, first-missed}
 use Rattle.sheet_text.specs.Text.{line_of, answer_word, pulse_lines, fault_text}
 use Rattle.hear_text.specs.Heard.{form, found, answer_text, call_text, sections_text, text_of, hear_text}
 
@@ -29,6 +30,16 @@ found-on s t e = first-on form s t e
 pub found-stop : (s : List ℕ) (k : ℕ) → Err k ≡ start_rest s → found s ≡ fault k
 unfolding found
 found-stop s k e = first-stop form s k e
+
+-- the first section, taken from the start on
+pub found-took : (s : List ℕ) {t : List ℕ} {zs : List ℤ} (r : Result (List ℕ) ℕ) → r ≡ start_rest s → Ok (zs, t) ≡ take_section triple 1 r
+    → Led (found s) (zs ∷ []) (row i8 ∷ []) 2 t
+unfolding found form
+found-took s r e f = first-took triple _ s r e f
+
+pub found-missed : (s : List ℕ) {j : ℕ} (r : Result (List ℕ) ℕ) → r ≡ start_rest s → Err j ≡ take_section triple 1 r → found s ≡ fault j
+unfolding found form
+found-missed s r e f = first-missed triple _ s r e f
 
 -- the text of a fault
 pub text-fault : (s : List ℕ) (j k : ℕ) → j ≡ k → found s ≡ fault k → fault_text j ≡ hear_text s

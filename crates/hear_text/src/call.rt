@@ -20,10 +20,9 @@ pub struct Call {
 pub fn read(input: &[u8]) -> Result<Call, Fault>
     ensures { text_found result ≡ hear_text input.now }
 {
-    let at1 = sheet::start(input)?;
-    let (first, at2) = section::triple_section(input, at1, 1)?;
-    let (pulses, at3) = section::section8(input, at2, 2)?;
-    sheet::end(input, at3, 3)?;
+    let (first, at2) = section::triple_section(input, sheet::start(input), 1)?;
+    let (pulses, at3) = section::section8(input, Ok(at2), 2)?;
+    sheet::end(input, Ok(at3), 3)?;
     let three = first.as_slice();
     Ok(Call {
         seed: three[0],

@@ -4,7 +4,7 @@ use mathlib.Core.Path.{◌≡◌, refl, sym, ap, ◌∙◌}
 use Rattle.std.specs.Prelude.{ℕ, Result, Ok, Err}
 use native.Mathlib.Omega.{arith}
 use Rattle.sheet_form.specs.Found.{items, section_found, rest_at}
-use Rattle.sheet_form.specs.Sheets.{end_of}
+use Rattle.sheet_form.specs.Sheets.{verdict_of}
 use Rattle.sheet_form.specs.declared.fault.Fault.{Fault}
 use Rattle.sheet_form.proofs.blank.zeros32.Reads as zeros32
 use Rattle.sheet_form.proofs.blank.zeros16.Reads as zeros16
@@ -29,7 +29,7 @@ pub start-unique : (κs a r s e f : _) → start.Post κs a r e → start.Post �
 start-unique κs a r s e f p q = p ∙ sym q
 
 -- an end is known by the reading that it stands for
-same-end : (v w : Result (Unit {0}) Fault) → end_of v ≡ end_of w → v ≡ w
+same-end : (v w : Result (Unit {0}) Fault) → verdict_of v ≡ verdict_of w → v ≡ w
 same-end (Ok x) (Ok y) e = refl
 same-end (Ok x) (Err g) e = absurd (grind arith)
 same-end (Err f) (Ok y) e = absurd (grind arith)

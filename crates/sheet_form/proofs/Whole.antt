@@ -12,7 +12,7 @@ use Rattle.fixed.specs.Iter.{either}
 use Rattle.sheet_words.specs.Number.{Read, got, bad, run, separator}
 use Rattle.sheet_form.specs.Sections.{Kind, Reading, fault, sheet, settings, row, i16, i32, layout, section, after, or_fault, ended, sections, reading}
 use Rattle.std.specs.Prelude.{Result, Ok, Err}
-use Rattle.sheet_form.specs.Found.{taken}
+use Rattle.sheet_form.specs.Found.{taken, take_section}
 use Rattle.sheet_form.specs.declared.fault.Fault.{Fault}
 use Rattle.sheet_form.specs.Sheets.{sheet_of, start_rest}
 use Rattle.sheet_words.proofs.Runs.{run-le}
@@ -118,6 +118,35 @@ start-on s t e = first-on layout s t e
 pub start-stop : (s : List ℕ) (k : ℕ) → Err k ≡ start_rest s → reading s ≡ fault k
 unfolding reading
 start-stop s k e = first-stop layout s k e
+
+-- the first section, taken from the start on
+module _ (kind : Kind) (kinds : List Kind) (s : List ℕ) where
+  pub first-took : {t : List ℕ} {zs : List ℤ} (r : Result (List ℕ) ℕ) → r ≡ start_rest s → Ok (zs, t) ≡ take_section kind 1 r
+      → Led (either (ltb 65536 (length s)) (fault 0) (sections (kind ∷ kinds) 1 s)) (zs ∷ []) kinds 2 t
+  first-took {t} {zs} (Ok u) e f = on (first-on (kind ∷ kinds) s u e) (taken-ok 1 (section kind u) zs t f)
+  first-took (Err j) e f = absurd (grind arith)
+
+  -- .. or not
+  pub first-missed : {j : ℕ} (r : Result (List ℕ) ℕ) → r ≡ start_rest s → Err j ≡ take_section kind 1 r
+      → either (ltb 65536 (length s)) (fault 0) (sections (kind ∷ kinds) 1 s) ≡ fault j
+  first-missed {j} (Ok u) e f = let p = taken-err 1 j (section kind u) f in rw p.1 (stop (first-on (kind ∷ kinds) s u e) p.0)
+  first-missed {j} (Err i) e f = let p : j ≡ i = cc in rw p (first-stop (kind ∷ kinds) s i e)
+
+-- .. of a call sheet
+pub start-took : (s : List ℕ) {t : List ℕ} {zs : List ℤ} (r : Result (List ℕ) ℕ) → r ≡ start_rest s → Ok (zs, t) ≡ take_section settings 1 r
+    → Led (reading s) (zs ∷ []) (row i16 ∷ row i16 ∷ row i16 ∷ row i16 ∷ row i32 ∷ row i32 ∷ row i32 ∷ row i32 ∷ row i32 ∷ []) 2 t
+unfolding reading layout
+start-took s r e f = first-took settings _ s r e f
+
+pub start-missed : (s : List ℕ) {j : ℕ} (r : Result (List ℕ) ℕ) → r ≡ start_rest s → Err j ≡ take_section settings 1 r → reading s ≡ fault j
+unfolding reading layout
+start-missed s r e f = first-missed settings _ s r e f
+
+-- what holds of the numbers of any section holds of those that were taken
+pub of-taken : (kind : Kind) (k : ℕ) (P : List ℤ → Type 0) → ((s t : List ℕ) (zs : List ℤ) → section kind s ≡ got zs t → P zs)
+    → (r : Result (List ℕ) ℕ) (zs : List ℤ) (t : List ℕ) → Ok (zs, t) ≡ take_section kind k r → P zs
+of-taken kind k P h (Ok s) zs t e = h s t zs (taken-ok k (section kind s) zs t e)
+of-taken kind k P h (Err j) zs t e = absurd (grind arith)
 
 -- the fault as the code hands it back
 pub as-fault : (m : Reading) (f : Fault) (k : ℕ) → f.number ≡ k → m ≡ fault k → Err f ≡ sheet_of m

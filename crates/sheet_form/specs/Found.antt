@@ -1,10 +1,11 @@
 -- What the code's answers say, in the terms of the definitions: a place in the text stands for the bytes from it on.
 -- Assumes nothing.
-use Rattle.std.specs.Prelude.{◌≡◌, ℕ, false, List, drop, ℤ, pos, Option, Some, None, Result, Ok, Err}
+use Rattle.std.specs.Prelude.{◌≡◌, ℕ, ◌-◌, false, List, ◌++◌, length, drop, ℤ, pos, Option, Some, None, Result, Ok, Err}
 use Rattle.std.specs.Int.Signed.{lt_z}
 use Rattle.arrayvec.specs.ArrayVec.{ArrayVec}
+use Rattle.silk.specs.State.{zeros}
 use Rattle.sheet_words.specs.Number.{Range, Read, got, bad}
-use Rattle.sheet_form.specs.Sections.{Kind}
+use Rattle.sheet_form.specs.Sections.{Kind, section}
 use Rattle.sheet_form.specs.declared.fault.Fault.{Fault}
 use Rattle.sheet_form.specs.declared.number.Bounds.{Bounds}
 use Rattle.sheet_form.specs.declared.section.Counts.{Counts}
@@ -39,6 +40,15 @@ items row = row.items
 unfoldable pub taken : ℕ → Read (List ℤ) → Result (List ℤ × List ℕ) ℕ
 taken k (got zs s) = Ok (zs, s)
 taken k bad = Err k
+
+-- section k of what is left; after a fault there is none, and that fault is handed on
+abbrev pub take_section : Kind → ℕ → Result (List ℕ) ℕ → Result (List ℤ × List ℕ) ℕ
+take_section asked k (Ok s) = taken k (section asked s)
+take_section asked k (Err j) = Err j
+
+-- the numbers, and zeros up to 320 places
+unfoldable pub padded : List ℤ → List ℤ
+padded zs = zs ++ zeros (320 - length zs)
 
 -- a row and the place after it, or a fault
 abbrev pub section_found : {R : Type 0} → (R → List ℤ) → List ℕ → Result (R × ℕ) Fault → Result (List ℤ × List ℕ) ℕ

@@ -5,7 +5,7 @@ use Rattle.arrayvec.specs.ArrayVec.{ArrayVec}
 use Rattle.fixed.specs.Iter.{either}
 use Rattle.silk.specs.declared.structs.Settings.{Settings}
 use Rattle.settings_row.specs.Named.{settings_of}
-use Rattle.sheet_form.specs.Sections.{Reading, fault, sheet}
+use Rattle.sheet_form.specs.Sections.{Reading, fault, sheet, ended}
 use Rattle.sheet_form.specs.declared.fault.Fault.{Fault}
 use Rattle.sheet_form.specs.declared.sheet.Sheet.{Sheet}
 
@@ -38,10 +38,15 @@ sheet_of (fault k) = Err (record { number = k })
 unfoldable pub start_rest : List ℕ → Result (List ℕ) ℕ
 start_rest s = either (ltb 65536 (length s)) (Err 0) (Ok s)
 
--- the end of a sheet as a reading: good, with no section after it
-abbrev pub end_of : Result (Unit {0}) Fault → Reading
-end_of (Ok u) = sheet []
-end_of (Err f) = fault f.number
+-- what is found after the last section, where words that follow are fault k; a fault that was met is handed on
+abbrev pub end_of : ℕ → Result (List ℕ) ℕ → Reading
+end_of k (Ok s) = ended k s
+end_of k (Err j) = fault j
+
+-- an end as a reading: good, with no section after it
+abbrev pub verdict_of : Result (Unit {0}) Fault → Reading
+verdict_of (Ok u) = sheet []
+verdict_of (Err f) = fault f.number
 
 -- the path count that 0 stands for
 unfoldable pub default_paths : ℤ

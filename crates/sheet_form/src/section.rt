@@ -1,7 +1,7 @@
 // One section of a sheet: its count, and that many numbers.
 ghost use Rattle.std.specs.Prelude.{◌≡◌, ◌≤◌, drop};
 ghost use Rattle.sheet_form.specs.Sections.{numbers as numbers_z, section as section_z, settings, triple, row, i8, i16, i32};
-ghost use Rattle.sheet_form.specs.Found.{kind, numbers_found, taken, items, section_found};
+ghost use Rattle.sheet_form.specs.Found.{kind, numbers_found, take_section, items, section_found, rest_at};
 
 use crate::fault::Fault;
 use crate::number;
@@ -56,48 +56,59 @@ fn counted<R: Row>(text: &[u8], at: usize, counts: Counts) -> Option<(R, usize)>
     numbers(text, next, n as usize)
 }
 
-// Section k from the place `from` on: its numbers, and the place after it.
-fn section<R: Row>(text: &[u8], from: usize, k: u32, counts: Counts) -> Result<(R, usize), Fault>
+// Section k from where the section before it ended: its numbers, and the place after it. After a fault nothing is read, and that fault is
+// handed on.
+fn section<R: Row>(
+    text: &[u8],
+    from: Result<usize, Fault>,
+    k: u32,
+    counts: Counts,
+) -> Result<(R, usize), Fault>
     requires { counts.most ≤ 320 }
-    ensures { section_found R.numbers text.now result ≡ taken k (section_z (kind counts R.words) (drop from text.now)) }
+    ensures { section_found R.numbers text.now result ≡ take_section (kind counts R.words) k (rest_at text.now from) }
 {
-    match counted(text, from, counts) {
+    let at = from?;
+    match counted(text, at, counts) {
         Some(read) => Ok(read),
         None => Err(Fault { number: k }),
     }
 }
 
 // Section 1: exactly 12 numbers of 32 bits.
-pub fn settings_section(text: &[u8], from: usize) -> Result<(Row32, usize), Fault>
-    ensures { section_found items text.now result ≡ taken 1 (section_z settings (drop from text.now)) }
+pub fn settings_section(text: &[u8], from: Result<usize, Fault>) -> Result<(Row32, usize), Fault>
+    ensures { section_found items text.now result ≡ take_section settings 1 (rest_at text.now from) }
 {
     section(text, from, 1, SETTINGS)
 }
 
 // Section k: exactly three numbers of 32 bits.
-pub fn triple_section(text: &[u8], from: usize, k: u32) -> Result<(Row32, usize), Fault>
-    ensures { section_found items text.now result ≡ taken k (section_z triple (drop from text.now)) }
+pub fn triple_section(
+    text: &[u8],
+    from: Result<usize, Fault>,
+    k: u32,
+) -> Result<(Row32, usize), Fault>
+    ensures { section_found items text.now result ≡ take_section triple k (rest_at text.now from) }
 {
     section(text, from, k, TRIPLE)
 }
 
 // Section k with 0 to 320 numbers of 32 bits. A name for each width: the trait of rows is the crate's own.
-pub fn section32(text: &[u8], from: usize, k: u32) -> Result<(Row32, usize), Fault>
-    ensures { section_found items text.now result ≡ taken k (section_z (row i32) (drop from text.now)) }
+pub fn section32(text: &[u8], from: Result<usize, Fault>, k: u32) -> Result<(Row32, usize), Fault>
+    ensures { section_found items text.now result ≡ take_section (row i32) k (rest_at text.now from) }
 {
-    section(text, from, k, ROW)
+    section::<Row32>(text, from, k, ROW)
 }
 
 // Section k with 0 to 320 numbers of 8 bits.
-pub fn section8(text: &[u8], from: usize, k: u32) -> Result<(Row8, usize), Fault>
-    ensures { section_found items text.now result ≡ taken k (section_z (row i8) (drop from text.now)) }
+pub fn section8(text: &[u8], from: Result<usize, Fault>, k: u32) -> Result<(Row8, usize), Fault>
+    ensures { section_found items text.now result ≡ take_section (row i8) k (rest_at text.now from) }
 {
     section(text, from, k, ROW)
 }
 
 // Section k with 0 to 320 numbers of 16 bits.
-pub fn section16(text: &[u8], from: usize, k: u32) -> Result<(Row16, usize), Fault>
-    ensures { section_found items text.now result ≡ taken k (section_z (row i16) (drop from text.now)) }
+pub fn section16(text: &[u8], from: Result<usize, Fault>, k: u32) -> Result<(Row16, usize), Fault>
+    ensures { section_found items text.now result ≡ take_section (row i16) k (rest_at text.now from) }
 {
     section(text, from, k, ROW)
 }

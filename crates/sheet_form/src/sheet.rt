@@ -1,8 +1,8 @@
 // A whole call sheet: read from bytes.
-ghost use Rattle.std.specs.Prelude.{◌≡◌, drop};
-ghost use Rattle.sheet_form.specs.Sections.{reading, ended};
+ghost use Rattle.std.specs.Prelude.{◌≡◌};
+ghost use Rattle.sheet_form.specs.Sections.{reading};
 ghost use Rattle.sheet_form.specs.Found.{rest_at};
-ghost use Rattle.sheet_form.specs.Sheets.{sheet_of, with_default, start_rest, end_of};
+ghost use Rattle.sheet_form.specs.Sheets.{sheet_of, with_default, start_rest, verdict_of, end_of};
 
 use crate::fault::Fault;
 use crate::rows::{Row16, Row32};
@@ -44,11 +44,12 @@ pub fn start(text: &[u8]) -> Result<usize, Fault>
     }
 }
 
-// After the last section only separators may follow, else there is fault k.
-pub fn end(text: &[u8], from: usize, k: u32) -> Result<(), Fault>
-    ensures { end_of result ≡ ended k (drop from text.now) }
+// After the last section only separators may follow, else there is fault k. A fault that was met before is handed on.
+pub fn end(text: &[u8], from: Result<usize, Fault>, k: u32) -> Result<(), Fault>
+    ensures { verdict_of result ≡ end_of k (rest_at text.now from) }
 {
-    if text.len() <= words::end_of_run(text, from, Class::Separator) {
+    let at = from?;
+    if text.len() <= words::end_of_run(text, at, Class::Separator) {
         Ok(())
     } else {
         Err(Fault { number: k })
@@ -59,18 +60,17 @@ pub fn end(text: &[u8], from: usize, k: u32) -> Result<(), Fault>
 pub fn read(text: &[u8]) -> Result<Sheet, Fault>
     ensures { result ≡ sheet_of (reading text.now) }
 {
-    let at1 = start(text)?;
-    let (first, at2) = section::settings_section(text, at1)?;
-    let (samples, at3) = section::section16(text, at2, 2)?;
-    let (pred_coef, at4) = section::section16(text, at3, 3)?;
-    let (ltp_coef, at5) = section::section16(text, at4, 4)?;
-    let (ar, at6) = section::section16(text, at5, 5)?;
-    let (harm_gains, at7) = section::section32(text, at6, 6)?;
-    let (tilts, at8) = section::section32(text, at7, 7)?;
-    let (lfs, at9) = section::section32(text, at8, 8)?;
-    let (gains, at10) = section::section32(text, at9, 9)?;
-    let (lags, at11) = section::section32(text, at10, 10)?;
-    end(text, at11, 11)?;
+    let (first, at2) = section::settings_section(text, start(text))?;
+    let (samples, at3) = section::section16(text, Ok(at2), 2)?;
+    let (pred_coef, at4) = section::section16(text, Ok(at3), 3)?;
+    let (ltp_coef, at5) = section::section16(text, Ok(at4), 4)?;
+    let (ar, at6) = section::section16(text, Ok(at5), 5)?;
+    let (harm_gains, at7) = section::section32(text, Ok(at6), 6)?;
+    let (tilts, at8) = section::section32(text, Ok(at7), 7)?;
+    let (lfs, at9) = section::section32(text, Ok(at8), 8)?;
+    let (gains, at10) = section::section32(text, Ok(at9), 9)?;
+    let (lags, at11) = section::section32(text, Ok(at10), 10)?;
+    end(text, Ok(at11), 11)?;
     Ok(Sheet {
         settings: named::settings_of(first.as_slice()),
         samples,

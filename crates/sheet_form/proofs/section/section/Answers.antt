@@ -5,8 +5,8 @@ use Rattle.sheet_form.proofs.section.section.Goals as goal
 
 pub returns-in-Some : goal.returns-in-Some
 unfolding taken
-returns-in-Some g c = ap (taken c.args.k) c.in-Some.ensures
+returns-in-Some g c = rw c.in_ok-at.was (ap (taken c.args.k) c.in-Some.ensures)
 
 pub returns-in-None : goal.returns-in-None
 unfolding taken
-returns-in-None g c = ap (taken c.args.k) c.in-None.ensures
+returns-in-None g c = rw c.in_ok-at.was (ap (taken c.args.k) c.in-None.ensures)

@@ -1,36 +1,31 @@
 -- `sheet_form::sheet::read` meets its contract. Assumes nothing.
-use mathlib.Core.Path.{refl}
+use mathlib.Core.Path.{◌≡◌, refl}
+use mathlib.Core.List.{List}
 use native.Mathlib.Omega.{arith}
+use lib.ListN.{length}
+use lib.IntN.{ℤ}
 use Rattle.std.proofs.lemmas.Result.{err_from_is_err_and}
 use Rattle.sheet_form.proofs.Fitting.{twelve}
+use Rattle.sheet_form.specs.Sections.{settings}
 use Rattle.sheet_form.specs.Sheets.{sheet_of, sheet_with}
-use Rattle.sheet_form.proofs.Whole.{taken-ok, taken-err, start-on, start-stop, on, stop, whole-good, whole-bad, as-fault}
+use Rattle.sheet_form.proofs.Whole.{taken-ok, taken-err, start-took, start-missed, of-taken, on, stop, whole-good, whole-bad, as-fault}
 use Rattle.sheet_form.proofs.sheet.read.Goals as goal
-
-pub returns-in_err-at1 : goal.returns-in_err-at1
-returns-in_err-at1 c =
-    let p = err_from_is_err_and c.from_residual.result c.from_residual.ensures.1 in
-    rw (p.1, p.2) (as-fault _ _ _ refl (start-stop c.args.text.now _ c.in_err-at1.ensures))
 
 pub returns-in_err-first : goal.returns-in_err-first
 returns-in_err-first c =
-    let e0 = start-on c.args.text.now _ c.in_ok-at1.ensures in
-    let t = taken-err 1 _ _ c.in_err-first.ensures in
-    let p = err_from_is_err_and c.from_residual-in_err-first.result c.from_residual-in_err-first.ensures.1 in
-    rw (p.1, p.2) (as-fault _ _ 1 t.1 (stop e0 t.0))
+    let p = err_from_is_err_and c.from_residual.result c.from_residual.ensures.1 in
+    rw (p.1, p.2) (as-fault _ _ _ refl (start-missed _ _ c.start.ensures c.in_err-first.ensures))
 
 pub returns-in_err-samples : goal.returns-in_err-samples
 returns-in_err-samples c =
-    let e0 = start-on c.args.text.now _ c.in_ok-at1.ensures in
-    let e1 = on e0 (taken-ok 1 _ _ _ c.in_ok-first.ensures) in
+    let e1 = start-took _ _ c.start.ensures c.in_ok-first.ensures in
     let t = taken-err 2 _ _ c.in_err-samples.ensures in
     let p = err_from_is_err_and c.from_residual-in_err-samples.result c.from_residual-in_err-samples.ensures.1 in
     rw (p.1, p.2) (as-fault _ _ 2 t.1 (stop e1 t.0))
 
 pub returns-in_err-pred_coef : goal.returns-in_err-pred_coef
 returns-in_err-pred_coef c =
-    let e0 = start-on c.args.text.now _ c.in_ok-at1.ensures in
-    let e1 = on e0 (taken-ok 1 _ _ _ c.in_ok-first.ensures) in
+    let e1 = start-took _ _ c.start.ensures c.in_ok-first.ensures in
     let e2 = on e1 (taken-ok 2 _ _ _ c.in_ok-samples.ensures) in
     let t = taken-err 3 _ _ c.in_err-pred_coef.ensures in
     let p = err_from_is_err_and c.from_residual-in_err-pred_coef.result c.from_residual-in_err-pred_coef.ensures.1 in
@@ -38,8 +33,7 @@ returns-in_err-pred_coef c =
 
 pub returns-in_err-ltp_coef : goal.returns-in_err-ltp_coef
 returns-in_err-ltp_coef c =
-    let e0 = start-on c.args.text.now _ c.in_ok-at1.ensures in
-    let e1 = on e0 (taken-ok 1 _ _ _ c.in_ok-first.ensures) in
+    let e1 = start-took _ _ c.start.ensures c.in_ok-first.ensures in
     let e2 = on e1 (taken-ok 2 _ _ _ c.in_ok-samples.ensures) in
     let e3 = on e2 (taken-ok 3 _ _ _ c.in_ok-pred_coef.ensures) in
     let t = taken-err 4 _ _ c.in_err-ltp_coef.ensures in
@@ -48,8 +42,7 @@ returns-in_err-ltp_coef c =
 
 pub returns-in_err-ar : goal.returns-in_err-ar
 returns-in_err-ar c =
-    let e0 = start-on c.args.text.now _ c.in_ok-at1.ensures in
-    let e1 = on e0 (taken-ok 1 _ _ _ c.in_ok-first.ensures) in
+    let e1 = start-took _ _ c.start.ensures c.in_ok-first.ensures in
     let e2 = on e1 (taken-ok 2 _ _ _ c.in_ok-samples.ensures) in
     let e3 = on e2 (taken-ok 3 _ _ _ c.in_ok-pred_coef.ensures) in
     let e4 = on e3 (taken-ok 4 _ _ _ c.in_ok-ltp_coef.ensures) in
@@ -59,8 +52,7 @@ returns-in_err-ar c =
 
 pub returns-in_err-harm_gains : goal.returns-in_err-harm_gains
 returns-in_err-harm_gains c =
-    let e0 = start-on c.args.text.now _ c.in_ok-at1.ensures in
-    let e1 = on e0 (taken-ok 1 _ _ _ c.in_ok-first.ensures) in
+    let e1 = start-took _ _ c.start.ensures c.in_ok-first.ensures in
     let e2 = on e1 (taken-ok 2 _ _ _ c.in_ok-samples.ensures) in
     let e3 = on e2 (taken-ok 3 _ _ _ c.in_ok-pred_coef.ensures) in
     let e4 = on e3 (taken-ok 4 _ _ _ c.in_ok-ltp_coef.ensures) in
@@ -71,8 +63,7 @@ returns-in_err-harm_gains c =
 
 pub returns-in_err-tilts : goal.returns-in_err-tilts
 returns-in_err-tilts c =
-    let e0 = start-on c.args.text.now _ c.in_ok-at1.ensures in
-    let e1 = on e0 (taken-ok 1 _ _ _ c.in_ok-first.ensures) in
+    let e1 = start-took _ _ c.start.ensures c.in_ok-first.ensures in
     let e2 = on e1 (taken-ok 2 _ _ _ c.in_ok-samples.ensures) in
     let e3 = on e2 (taken-ok 3 _ _ _ c.in_ok-pred_coef.ensures) in
     let e4 = on e3 (taken-ok 4 _ _ _ c.in_ok-ltp_coef.ensures) in
@@ -84,8 +75,7 @@ returns-in_err-tilts c =
 
 pub returns-in_err-lfs : goal.returns-in_err-lfs
 returns-in_err-lfs c =
-    let e0 = start-on c.args.text.now _ c.in_ok-at1.ensures in
-    let e1 = on e0 (taken-ok 1 _ _ _ c.in_ok-first.ensures) in
+    let e1 = start-took _ _ c.start.ensures c.in_ok-first.ensures in
     let e2 = on e1 (taken-ok 2 _ _ _ c.in_ok-samples.ensures) in
     let e3 = on e2 (taken-ok 3 _ _ _ c.in_ok-pred_coef.ensures) in
     let e4 = on e3 (taken-ok 4 _ _ _ c.in_ok-ltp_coef.ensures) in
@@ -98,8 +88,7 @@ returns-in_err-lfs c =
 
 pub returns-in_err-gains : goal.returns-in_err-gains
 returns-in_err-gains c =
-    let e0 = start-on c.args.text.now _ c.in_ok-at1.ensures in
-    let e1 = on e0 (taken-ok 1 _ _ _ c.in_ok-first.ensures) in
+    let e1 = start-took _ _ c.start.ensures c.in_ok-first.ensures in
     let e2 = on e1 (taken-ok 2 _ _ _ c.in_ok-samples.ensures) in
     let e3 = on e2 (taken-ok 3 _ _ _ c.in_ok-pred_coef.ensures) in
     let e4 = on e3 (taken-ok 4 _ _ _ c.in_ok-ltp_coef.ensures) in
@@ -113,8 +102,7 @@ returns-in_err-gains c =
 
 pub returns-in_err-lags : goal.returns-in_err-lags
 returns-in_err-lags c =
-    let e0 = start-on c.args.text.now _ c.in_ok-at1.ensures in
-    let e1 = on e0 (taken-ok 1 _ _ _ c.in_ok-first.ensures) in
+    let e1 = start-took _ _ c.start.ensures c.in_ok-first.ensures in
     let e2 = on e1 (taken-ok 2 _ _ _ c.in_ok-samples.ensures) in
     let e3 = on e2 (taken-ok 3 _ _ _ c.in_ok-pred_coef.ensures) in
     let e4 = on e3 (taken-ok 4 _ _ _ c.in_ok-ltp_coef.ensures) in
@@ -129,8 +117,7 @@ returns-in_err-lags c =
 
 pub returns-in_err-end : goal.returns-in_err-end
 returns-in_err-end c =
-    let e0 = start-on c.args.text.now _ c.in_ok-at1.ensures in
-    let e1 = on e0 (taken-ok 1 _ _ _ c.in_ok-first.ensures) in
+    let e1 = start-took _ _ c.start.ensures c.in_ok-first.ensures in
     let e2 = on e1 (taken-ok 2 _ _ _ c.in_ok-samples.ensures) in
     let e3 = on e2 (taken-ok 3 _ _ _ c.in_ok-pred_coef.ensures) in
     let e4 = on e3 (taken-ok 4 _ _ _ c.in_ok-ltp_coef.ensures) in
@@ -145,14 +132,13 @@ returns-in_err-end c =
 
 pub settings_of-requires : goal.settings_of-requires
 settings_of-requires c =
-    let t = twelve _ _ _ (taken-ok 1 _ _ _ c.in_ok-first.ensures) in
+    let t = of-taken settings 1 (λ (zs : List ℤ). length zs ≡ 12) (λ s t zs e. twelve s t zs e) _ _ _ c.in_ok-first.ensures in
     rw c.as_slice.ensures.value (omega arith)
 
 pub returns : goal.returns
 unfolding sheet_of sheet_with
 returns c =
-    let e0 = start-on c.args.text.now _ c.in_ok-at1.ensures in
-    let e1 = on e0 (taken-ok 1 _ _ _ c.in_ok-first.ensures) in
+    let e1 = start-took _ _ c.start.ensures c.in_ok-first.ensures in
     let e2 = on e1 (taken-ok 2 _ _ _ c.in_ok-samples.ensures) in
     let e3 = on e2 (taken-ok 3 _ _ _ c.in_ok-pred_coef.ensures) in
     let e4 = on e3 (taken-ok 4 _ _ _ c.in_ok-ltp_coef.ensures) in
