@@ -1,9 +1,11 @@
 -- Every number of a section fits where the section's range does. Assumes nothing.
 use mathlib.Core.Path.{◌≡◌, refl, ap, ◌∙◌}
-use mathlib.Core.List.{List, [], ◌∷◌}
-use Prim.Native.Nat.{ℕ, zero, suc, ◌≤◌}
+use mathlib.Core.List.{List, [], ◌∷◌, ◌++◌}
+use Prim.Native.Nat.{ℕ, zero, suc, ◌-◌, ◌+◌, ◌≤◌, ◌<◌}
+use native.Mathlib.Numerals.{add-one}
 use native.Mathlib.Omega.{arith}
-use lib.ListN.{length, get_or, replicate, take}
+use lib.ListN.{length, get_or, replicate, take, set}
+use lib.Seq.{take-suc, take-suc-set, take-append_seam}
 use lib.IntN.{ℤ, pos, negsuc, nat_abs}
 use lib.Dec.{T}
 use lib.Signed.{lt_z, non_neg}
@@ -13,11 +15,28 @@ use mir.Val.{SFits}
 use mir.Facts.{sfits_lit}
 use Rattle.silk.specs.State.{zeros}
 use Rattle.sheet_words.specs.Number.{Range, Read, got, bad, number}
+use Rattle.sheet_form.specs.Found.{padded}
 use Rattle.sheet_form.specs.Sections.{Kind, and_then, before, numbers, section, row, settings, triple, i8, i16, i32}
 use Rattle.sheet_form.proofs.Numbers.{number_fits, number-range}
 use Rattle.fixed.proofs.Lin.{lt-false}
 
--- ---- zeros
+-- ---- past its end a row has zeros
+replicate-at : (n i : ℕ) → get_or (replicate n (pos 0)) i (pos 0) ≡ pos 0
+replicate-at zero i = refl
+replicate-at (suc n) zero = refl
+replicate-at (suc n) (suc i) = replicate-at n i
+
+zeros-at : (zs : List ℤ) (n i : ℕ) → get_or (zs ++ zeros n) i (pos 0) ≡ get_or zs i (pos 0)
+unfolding zeros
+zeros-at [] n i = replicate-at n i
+zeros-at (z ∷ zs) n zero = refl
+zeros-at (z ∷ zs) n (suc i) = zeros-at zs n i
+
+pub padded-at : (zs : List ℤ) (i : ℕ) → get_or (padded zs) i (pos 0) ≡ get_or zs i (pos 0)
+unfolding padded
+padded-at zs i = zeros-at zs (320 - length zs) i
+
+-- ---- the first words of a row
 take-zeros : (n m : ℕ) → n ≤ m → take n (replicate m (pos 0)) ≡ replicate n (pos 0)
 take-zeros zero m h = refl
 take-zeros (suc n) zero h = absurd (omega arith)
@@ -27,6 +46,11 @@ take-zeros (suc n) (suc m) h = ap (λ (zs : List ℤ). pos 0 ∷ zs) (take-zeros
 pub zeros-first : (n : ℕ) → n ≤ 320 → take n (zeros 320) ≡ zeros n
 unfolding zeros
 zeros-first n h = take-zeros n 320 h
+
+-- of a row with its zeros, as many as were read
+pub padded-first : (zs : List ℤ) → take (length zs) (padded zs) ≡ zs
+unfolding padded
+padded-first zs = take-append_seam zs (zeros (320 - length zs))
 
 -- ---- the numbers that were read
 -- every number fits the width; 0 stands past the last
@@ -79,6 +103,17 @@ section-fits s = row_fits w16 i16 (sfits_lit tt) (sfits_lit tt) (sfits_lit tt) s
 pub bytes-section-fits : (s : List ℕ) → AllRead w8 (section (row i8) s)
 bytes-section-fits s = row_fits w8 i8 (sfits_lit tt) (sfits_lit tt) (sfits_lit tt) s
 
+-- and the row with its zeros
+pub padded-fit : (w : Width) (zs : List ℤ) → All w zs → All w (padded zs)
+padded-fit w zs h i = rw (padded-at zs i) (h i)
+
+-- and its first words
+pub take-fit : (w : Width) (n : ℕ) (zs : List ℤ) → SFits w (pos 0) → All w zs → All w (take n zs)
+take-fit w zero zs z h i = z
+take-fit w (suc n) [] z h i = z
+take-fit w (suc n) (x ∷ zs) z h zero = h zero
+take-fit w (suc n) (x ∷ zs) z h (suc i) = take-fit w n zs z (λ j. h (suc j)) i
+
 -- ---- a section by its count
 pub section-got : (kind : Kind) (s t : List ℕ) (n : ℤ) → number kind.counts s ≡ got n t → section kind s ≡ numbers kind.words (nat_abs n) t
 unfolding section and_then
@@ -95,6 +130,10 @@ count-is least most (negsuc n) p q = absurd (omega (arith, lt-false (negsuc n) (
 -- a count that was read is no negative number, and no more than allowed
 pub count_small : (least most : ℕ) (s t : List ℕ) (n : ℤ) → number (record { low = pos least; high = pos most }) s ≡ got n t → T (non_neg n) × (nat_abs n ≤ most)
 count_small least most s t n e = let p = number-range (record { low = pos least; high = pos most }) s t n e in count-is least most n p.0 p.1
+
+-- ---- a row copied word by word
+pub copied : (out words : List ℤ) (i : ℕ) → i < length out → i < length words → take i out ≡ take i words → take (i + 1) (set out i (get_or words i (pos 0))) ≡ take (i + 1) words
+copied out words i h k e = rw (add-one i, take-suc-set out i (get_or words i (pos 0)) h, take-suc words i (pos 0) k, e)
 
 -- ---- how many numbers a section has
 before-length : (n : ℕ) (z : ℤ) (m : Read (List ℤ)) (zs : List ℤ) (t : List ℕ) → before z m ≡ got zs t
