@@ -11,7 +11,6 @@ use fixed::wrap;
 use residuals::offset;
 use seeds::generator;
 use shifts::shift;
-use std::io;
 
 // The Lambdas where a step of the choice changes its ways, and the ends of the types.
 const NAMED: [i32; 64] = [
@@ -117,12 +116,13 @@ fn digest(lambda: i32) -> Fnv32 {
     h
 }
 
-fn main(rt: HostRuntime) -> io::Result<()> {
+// A Lambda is written before its digest is worked out. A write that fails is passed over: the run goes on to its end.
+fn main(rt: HostRuntime) {
     let mut seed = 0;
     for k in 0..208usize {
         seed = generator::rand(seed);
         let lambda = lambda_of(k, seed);
-        println!(rt; "{:08x} {:08x}", lambda.cast_unsigned(), digest(lambda).sum)?;
+        let _ = print!(rt; "{:08x} ", lambda.cast_unsigned());
+        let _ = println!(rt; "{:08x}", digest(lambda).sum);
     }
-    Ok(())
 }

@@ -5,7 +5,6 @@ use crate::{input, print};
 use excitation::{answer, reader};
 use fixed::wrap;
 use limits::count;
-use std::io;
 
 // The pulses of a line after a number that `end` ends, in lent space: as much of it as they fill. Of a run that is too long comes what there is room for.
 fn pulses<'a>(end: u8, space: &'a mut [i8; 1024]) -> &'a [i8] {
@@ -25,7 +24,7 @@ fn pulses<'a>(end: u8, space: &'a mut [i8; 1024]) -> &'a [i8] {
 }
 
 // The rest of a line, whose first number was read already: the call with a row of the line's length, and what is printed of it.
-fn case(rt: &impl Print, seed: i32) -> io::Result<()> {
+fn case(rt: &impl Print, seed: i32) {
     let signal_type = input::number();
     let offset_type = input::number();
     let length = input::number();
@@ -34,21 +33,18 @@ fn case(rt: &impl Print, seed: i32) -> io::Result<()> {
     let mut row = [1000000007; 1024];
     let row = &mut row[..count::count(length.value).min(1024)];
     let a = reader::excitation(pulses, seed, signal_type.value, offset_type.value, row);
-    print!(rt; " {}", answer::number(a))?;
-    print::row(rt, row)
+    print::answer(rt, answer::number(a));
+    print::row(rt, row);
 }
 
 // The next line of the list, if there is one.
-pub fn next(rt: &impl Print) -> io::Result<()> {
+pub fn next(rt: &impl Print) {
     match input::byte() {
-        0 => Ok(()),
-        b'#' | b'\n' => {
-            input::skip();
-            Ok(())
-        }
+        0 => {}
+        b'#' | b'\n' => input::skip(),
         first => {
             input::echo(first);
-            case(rt, input::number().value)
+            case(rt, input::number().value);
         }
     }
 }

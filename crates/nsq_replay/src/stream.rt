@@ -8,7 +8,6 @@ use limits::count;
 use nsq::entry;
 use settings_row::named;
 use silk::structs::Settings;
-use std::io;
 
 // The length of the row for the pulses: n times L. Another n than 2 or 4, or an L above 80, is refused before a row is looked at.
 fn frame_length(s: Settings) -> usize
@@ -20,7 +19,7 @@ fn frame_length(s: Settings) -> usize
 }
 
 // A call: its settings and rows, answered and printed. What is handed back is the state after it.
-fn call(rt: &impl Print, before: Held) -> io::Result<Held> {
+fn call(rt: &impl Print, before: Held) -> Held {
     let mut words = [0; 320];
     input::row(&mut words, |z| z);
     let s = named::settings_of(&words);
@@ -46,21 +45,21 @@ fn call(rt: &impl Print, before: Held) -> io::Result<Held> {
         Ok(coded) => (0, coded.seed, coded.state),
         Err(refused) => (refused.why.number(), refused.seed, refused.state),
     };
-    print::answer(rt, s, number, seed, &state, from.rand_seed, out)?;
-    Ok(Held {
+    print::answer(rt, s, number, seed, &state, from.rand_seed, out);
+    Held {
         state,
         rand_seed: from.rand_seed,
-    })
+    }
 }
 
 // The next call of the list, if there is one, between its lines `call NAME` and `go`.
-pub fn next(rt: &impl Print, held: Held) -> io::Result<Held> {
+pub fn next(rt: &impl Print, held: Held) -> Held {
     let first = input::byte();
     if first == 0 {
-        return Ok(held);
+        return held;
     }
     input::echo(first);
-    let after = call(rt, held)?;
+    let after = call(rt, held);
     input::number();
-    Ok(after)
+    after
 }

@@ -1,14 +1,14 @@
 // The analysis filter on rows of three kinds: any words, the two ends of the range, and small words.
 ghost use Rattle.std.specs.Prelude.{◌≤◌};
 
+use crate::numbers;
 use analysis::lpc_analysis_filter;
 use fixed::wrap;
 use seeds::generator;
 use shifts::shift;
-use std::io;
 
 // Rows and coefficients of each kind, at the two orders that the quantiser has, in turn.
-pub fn filter_rows(rt: &impl Print) -> io::Result<()> {
+pub fn filter_rows(rt: &impl Print) {
     let mut seed = 4;
     for i in 0..36 {
         let mut input = [0; 64];
@@ -16,21 +16,19 @@ pub fn filter_rows(rt: &impl Print) -> io::Result<()> {
         seed = fill(&mut input, seed, i % 3);
         seed = fill(&mut b, seed, i / 3 % 3);
         let order = if i % 2 == 0 { 16 } else { 10 };
-        filter_row(rt, &input, &b, order)?;
+        filter_row(rt, &input, &b, order);
     }
-    Ok(())
 }
 
 // One row, filtered into the middle of another, whose words before and after are to stay.
-fn filter_row(rt: &impl Print, input: &[i16; 64], b: &[i16; 16], order: usize) -> io::Result<()>
+fn filter_row(rt: &impl Print, input: &[i16; 64], b: &[i16; 16], order: usize)
     requires { order ≤ 16 }
 {
     let mut row = [77; 80];
     lpc_analysis_filter::silk_LPC_analysis_filter(&mut row[9..], input, b, order);
     for w in row {
-        println!(rt; "{w}")?;
+        numbers::print(rt, w);
     }
-    Ok(())
 }
 
 // Words of a kind (0, 1, 2 by turns, as its half in Rust makes them), and the generator's word after them.

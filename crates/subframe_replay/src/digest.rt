@@ -3,7 +3,6 @@ ghost use Rattle.std.specs.Prelude.{◌+◌, ◌<◌, ◌≤◌, length};
 
 use digests::fnv::Fnv32;
 use path::structs::{Path, Work};
-use std::io;
 
 // The digest with a row more.
 fn words<T: Copy + Into<i32>>(start: Fnv32, row: &[T]) -> Fnv32 {
@@ -15,12 +14,12 @@ fn path(start: Fnv32, p: &Path) -> Fnv32 {
     words(words(start, &p.sAR2_Q14), &rest)
 }
 
-// The paths' short words, and before them the ring's place.
-pub fn print_paths(rt: &impl Print, ps: [Path; 4], at: usize) -> io::Result<()>
+// The paths' short words, and before them the ring's place. Here and below a write that fails is passed over: the run goes on to its end.
+pub fn print_paths(rt: &impl Print, ps: [Path; 4], at: usize)
     requires { at < 40 }
 {
     let h = ps.iter().fold(Fnv32::new().word(at as i32), path);
-    print!(rt; "{:08x} ", h.sum)
+    let _ = print!(rt; "{:08x} ", h.sum);
 }
 
 // The LPC words of a path that count after a subframe of l samples: its first 16, and the 16 behind the samples.
@@ -51,21 +50,21 @@ fn of_row<T: Copy + Into<i32>>(row: &[T]) -> u32 {
 }
 
 // All rows of a subframe of l samples, which end the line.
-pub fn print_rows(rt: &impl Print, l: usize, w: &Work, pulses: &[i8; 320]) -> io::Result<()>
+pub fn print_rows(rt: &impl Print, l: usize, w: &Work, pulses: &[i8; 320])
     requires { l ≤ 80 }
 {
     let lpc = of_lpc(&w.states.lpcs, l).sum;
     let ring = of_rings(&w.states.rings).sum;
-    print!(rt; "{lpc:08x} {ring:08x} ")?;
-    print!(rt;
+    let _ = print!(rt; "{lpc:08x} {ring:08x} ");
+    let _ = print!(rt;
         "{:08x} {:08x} ",
         of_row(&w.sLTP_Q15),
         of_row(&w.delayedGain_Q10)
-    )?;
-    println!(rt;
+    );
+    let _ = println!(rt;
         "{:08x} {:08x} {:08x}",
         of_row(&w.xq),
         of_row(&w.sLTP_shp_Q14),
         of_row(pulses)
-    )
+    );
 }
