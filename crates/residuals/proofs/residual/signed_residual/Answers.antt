@@ -8,5 +8,6 @@ pub returns : goal.returns
 unfolding signed_residual
 returns c =
     let f = c.ranges in
-    let v = got32 c.turned.result c.turned.type_inv ∙ rw (read f.seed, read f.r) at c.turned.ensures in
-    got32 c.clamp32.result c.clamp32.type_inv ∙ rw v at c.clamp32.ensures
+    let turned = got32 c.turned.result c.turned.type_inv ∙ c.turned.ensures in
+    let clamped = got32 c.clamp32.result c.clamp32.type_inv ∙ c.clamp32.ensures in
+    simp (turned, clamped, read f.seed, read f.r)
