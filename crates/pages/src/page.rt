@@ -51,19 +51,31 @@ impl<'a> Page<'a> {
     pub fn put_all(&mut self, bytes: &[u8])
         ensures { Added self.old bytes.now self.new }
     {
+        let mut used = self.used;
         for b in bytes {
-            self.put(*b);
+            if used < self.bytes.len() {
+                self.bytes[used] = *b;
+                used += 1;
+            }
         }
+        self.used = used;
     }
 
-    // The decimal digits of n, the highest first.
+    // The decimal digits of n, which are made from the last to the first. A loop and a count of its own: each byte through `put`, and a call for
+    // each digit, took a third more instructions.
     pub fn digits(&mut self, n: u64)
         ensures { Added self.old (digits_of n) self.new }
     {
-        if 10 <= n {
-            self.digits(n / 10);
+        let mut ds = [0u8; 20];
+        let mut at = 19;
+        let mut left = n;
+        while 10 <= left {
+            ds[at] = b'0' + (left % 10) as u8;
+            left /= 10;
+            at -= 1;
         }
-        self.put(b'0' + (n % 10) as u8);
+        ds[at] = b'0' + left as u8;
+        self.put_all(&ds[at..]);
     }
 
     // A whole number, with a minus before a negative one. Written out and no `Display`: the contract states the bytes.

@@ -50,12 +50,12 @@ same-refusal j k e = sym (read-back j) ∙ ap refusal_of e ∙ read-back k
 fields : (a b : Found) → a.start ≡ b.start → a.length ≡ b.length → a.rate ≡ b.rate → a ≡ b
 fields a b s l r = λ i. record { start = s i; length = l i; rate = r i }
 
-pub same-found : (r s : Result Found Refusal) → in_numbers r ≡ in_numbers s → r ≡ s
-same-found (Ok a) (Ok b) e =
+pub same-result : (r s : Result Found Refusal) → in_numbers r ≡ in_numbers s → r ≡ s
+same-result (Ok a) (Ok b) e =
     ap Ok (fields a b (ap (λ (o : Outcome). o.start) e) (ap (λ (o : Outcome). o.length) e) (ap (λ (o : Outcome). o.rate) e))
-same-found (Ok a) (Err k) e = absurd (omega (arith, ap (λ (o : Outcome). o.answer) e, number_from-1 k))
-same-found (Err j) (Ok b) e = absurd (omega (arith, ap (λ (o : Outcome). o.answer) e, number_from-1 j))
-same-found (Err j) (Err k) e = ap Err (same-refusal j k (ap (λ (o : Outcome). o.answer) e))
+same-result (Ok a) (Err k) e = absurd (omega (arith, ap (λ (o : Outcome). o.answer) e, number_from-1 k))
+same-result (Err j) (Ok b) e = absurd (omega (arith, ap (λ (o : Outcome). o.answer) e, number_from-1 j))
+same-result (Err j) (Err k) e = ap Err (same-refusal j k (ap (λ (o : Outcome). o.answer) e))
 
 pub same-filled : (r s : Result (Unit {0}) NotTwice) → answer_number r ≡ answer_number s → r ≡ s
 same-filled (Ok a) (Ok b) e = refl
@@ -71,7 +71,7 @@ pub not-twice-unique : (κs a r s e f : _) → not-twice-read.Post κs a r e →
 not-twice-unique κs a r s e f p q = p ∙ sym q
 
 pub find-unique : (κs a r s e : _) → find.Post κs a r e → find.Post κs a s e → r ≡ s
-find-unique κs a r s e p q = same-found r s (p ∙ sym q)
+find-unique κs a r s e p q = same-result r s (p ∙ sym q)
 
 pub part-unique : (κs a r s e : _) → part.Post κs a r e → part.Post κs a s e → r.now ≡ s.now
 part-unique κs a r s e p q = p ∙ sym q

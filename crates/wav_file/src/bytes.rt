@@ -21,10 +21,11 @@ pub fn word32(s: &[u8], at: usize) -> u32
     word16(s, at) + 65536 * word16(s, at + 2)
 }
 
-// Whether the name stands at the place.
+// Whether the name stands at the place: byte by byte, since a comparison of slices calls, and C's callers have the stack of it.
+#[tactic(auto, unfolding(crate::specs::Bytes::named))]
 pub fn named(s: &[u8], at: usize, name: &[u8; 4]) -> bool
     requires { at + 4 ≤ length s.now }
     ensures { result ≡ named_of s.now at (slice_index name.now 0) (slice_index name.now 1) (slice_index name.now 2) (slice_index name.now 3) }
 {
-    s[at..at + 4] == name[..]
+    s[at] == name[0] && s[at + 1] == name[1] && s[at + 2] == name[2] && s[at + 3] == name[3]
 }
