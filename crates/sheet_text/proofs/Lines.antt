@@ -8,11 +8,12 @@ use lib.Seq.{length-take-le}
 use lib.IntN.{ℤ, pos}
 use borrow.Author.Tests.{eq-eqb, ne_eqb}
 use Rattle.std.proofs.lemmas.List.{take_more, length-map}
+use Rattle.pages.specs.Page.{Page, puts}
 use Rattle.pages.specs.declared.page.Page.{Page as Lent}
 use Rattle.pages.specs.Added.{Added}
 use Rattle.sheet_text.specs.Text.{line_of, spaced, section_text, sheet_text, after_pulse, pulse_lines, answer_word, seed_word, accepted_text, answer_text}
 use Rattle.pages.specs.Decimal.{decimal, digits}
-use Rattle.pages.proofs.Pages.{added_none, added_then}
+use Rattle.pages.proofs.Pages.{puts-append, added_none, added_then}
 
 -- a word, a number, a line feed
 pub line-added : {p q r t : Lent} (w : List ℕ) (z : ℤ) → Added p w q → Added q (decimal z) r → Added r (10 ∷ []) t → Added p (line_of w z) t
@@ -92,3 +93,16 @@ sheet-added zs rows a b = added_then (section_text zs) (sheet_text rows) a b
 pub sheet-none : (p : Lent) → Added p (sheet_text []) p
 unfolding sheet_text
 sheet-none p = added_none p
+
+-- the sections of two lists, one after the other, on any page
+sheet-step : (zs : List ℤ) (rows : List (List ℤ)) (p : Page) → puts (sheet_text (zs ∷ rows)) p ≡ puts (sheet_text rows) (puts (section_text zs) p)
+unfolding sheet_text
+sheet-step zs rows p = puts-append (section_text zs) (sheet_text rows) p
+
+no-rows : (p : Page) → puts (sheet_text []) p ≡ p
+unfolding sheet_text puts
+no-rows p = refl
+
+pub rows-puts : (rows more : List (List ℤ)) (p : Page) → puts (sheet_text more) (puts (sheet_text rows) p) ≡ puts (sheet_text (rows ++ more)) p
+rows-puts [] more p = ap (puts (sheet_text more)) (no-rows p)
+rows-puts (zs ∷ rows) more p = ap (puts (sheet_text more)) (sheet-step zs rows p) ∙ rows-puts rows more (puts (section_text zs) p) ∙ sym (sheet-step zs (rows ++ more) p)
