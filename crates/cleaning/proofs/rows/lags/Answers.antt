@@ -4,6 +4,7 @@ use mathlib.Core.Bool.{true, false}
 use mathlib.Core.List.{List, [], ◌∷◌, ◌++◌}
 use lib.ListN.{length}
 use lib.IntN.{ℤ}
+use Rattle.std.proofs.Common.{rules}
 use Rattle.counts.specs.Conditions.{voiced}
 use Rattle.cleaning.specs.Cleaned.{lag_counts}
 use Rattle.cleaning.proofs.Places.{kept-all}
@@ -25,7 +26,7 @@ returns-in-Some c =
     let rest = c.in-Some.rest.now in
     let parts = c.in-Some.ensures.cases in
     let t : voiced s ≡ false = sym c.voiced.ensures ∙ c.if-voiced.false in
-    ap (λ (l : List ℤ). l ++ z ∷ []) (c.fill.ensures.after (λ y e. e)) ∙ last-kept-alone s rest z c.args.row.now t parts.0 parts.1
+    ap (λ (l : List ℤ). l ++ z ∷ []) (search rules) ∙ last-kept-alone s rest z c.args.row.now t parts.0 parts.1
 
 pub returns-in_default : goal.returns-in_default
 returns-in_default c =
