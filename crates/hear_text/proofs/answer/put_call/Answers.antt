@@ -1,5 +1,7 @@
 -- `hear_text::answer::put_call` meets its contract. Assumes nothing.
-use Prim.Native.Nat.{◌≤◌}
+use mathlib.Core.Path.{◌≡◌}
+use Prim.Native.Nat.{ℕ, ◌≤◌}
+use native.Mathlib.Omega.{arith}
 use lib.ListN.{length}
 use Rattle.hear_text.specs.Heard.{call_text}
 use Rattle.sheet_form.proofs.Fitting.{zeros-first}
@@ -10,4 +12,7 @@ unfolding call_text
 returns c =
     let n = length c.args.call.now.pulses.items in
     let fits : n ≤ 320 = rw c.len-n.ensures.value at c.len-n.ensures.fits in
-    rw (c.zeros32-space.ensures, c.len-n.ensures.value, zeros-first n fits) at c.read.ensures
+    -- how many zeros are lent: one for each pulse
+    let lent : ℕ = c.len-n.result in
+    let same : lent ≡ n = omega (arith, c.len-n.ensures.value) in
+    rw (c.zeros32-space.ensures, same, zeros-first n fits) at c.read.ensures
