@@ -8,9 +8,11 @@
 use choice::candidate;
 use digests::fnv::Fnv32;
 use fixed::wrap;
+use prints::output::Output;
 use residuals::offset;
 use seeds::generator;
 use shifts::shift;
+use std::fmt::Write;
 
 // The Lambdas where a step of the choice changes its ways, and the ends of the types.
 const NAMED: [i32; 64] = [
@@ -117,12 +119,12 @@ fn digest(lambda: i32) -> Fnv32 {
 }
 
 // A Lambda is written before its digest is worked out. A write that fails is passed over: the run goes on to its end.
-fn main(rt: HostRuntime) {
+fn main() {
     let mut seed = 0;
     for k in 0..208usize {
         seed = generator::rand(seed);
         let lambda = lambda_of(k, seed);
-        let _ = print!(rt; "{:08x} ", lambda.cast_unsigned());
-        let _ = println!(rt; "{:08x}", digest(lambda).sum);
+        let _ = write!(Output, "{:08x} ", lambda.cast_unsigned());
+        let _ = writeln!(Output, "{:08x}", digest(lambda).sum);
     }
 }

@@ -12,8 +12,8 @@ mod print;
 mod rows;
 
 // All lines of the list, at most 512.
-fn main(rt: HostRuntime) {
+fn main() {
     for _ in 0..512 {
-        rows::next(&rt);
+        rows::next();
     }
 }

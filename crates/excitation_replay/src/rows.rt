@@ -24,7 +24,7 @@ fn pulses<'a>(end: u8, space: &'a mut [i8; 1024]) -> &'a [i8] {
 }
 
 // The rest of a line, whose first number was read already: the call with a row of the line's length, and what is printed of it.
-fn case(rt: &impl Print, seed: i32) {
+fn case(seed: i32) {
     let signal_type = input::number();
     let offset_type = input::number();
     let length = input::number();
@@ -33,18 +33,18 @@ fn case(rt: &impl Print, seed: i32) {
     let mut row = [1000000007; 1024];
     let row = &mut row[..count::count(length.value).min(1024)];
     let a = reader::excitation(pulses, seed, signal_type.value, offset_type.value, row);
-    print::answer(rt, answer::number(a));
-    print::row(rt, row);
+    print::answer(answer::number(a));
+    print::row(row);
 }
 
 // The next line of the list, if there is one.
-pub fn next(rt: &impl Print) {
+pub fn next() {
     match input::byte() {
         0 => {}
         b'#' | b'\n' => input::skip(),
         first => {
             input::echo(first);
-            case(rt, input::number().value);
+            case(input::number().value);
         }
     }
 }

@@ -8,10 +8,11 @@
 #![tactic(auto)]
 
 use fixed::wrap;
+use prints::output::Output;
 use products::product;
 use seeds::generator;
 use shifts::{range, shift};
-use std::fmt::Display;
+use std::fmt::{Display, Write};
 
 const WORDS: [i32; 24] = [
     -2147483648,
@@ -67,115 +68,115 @@ const WIDE: [i64; 16] = [
 ];
 
 // What f makes of each argument, and a space after each. Here and below a write that fails is passed over: the run goes on to its end.
-fn results<A: Copy, B: Display + Drop, F: Fn(A) -> B>(rt: &impl Print, args: &[A], f: F)
+fn results<A: Copy, B: Display + Drop, F: Fn(A) -> B>(args: &[A], f: F)
     requires { F.IsAlwaysCallable f }
 {
     for a in args {
-        let _ = print!(rt; "{} ", f(*a));
+        let _ = write!(Output, "{} ", f(*a));
     }
 }
 
 // A function's name, and a line of what it makes of these arguments.
-fn row<A: Copy, B: Display + Drop, F: Fn(A) -> B>(rt: &impl Print, name: &str, args: &[A], f: F)
+fn row<A: Copy, B: Display + Drop, F: Fn(A) -> B>(name: &str, args: &[A], f: F)
     requires { F.IsAlwaysCallable f }
 {
-    let _ = println!(rt; "{name}");
-    results(rt, args, f);
-    let _ = println!(rt; "");
+    let _ = writeln!(Output, "{name}");
+    results(args, f);
+    let _ = writeln!(Output);
 }
 
 // The same of words and then of edges.
-fn row1<B: Display + Drop, F: Fn(i32) -> B>(rt: &impl Print, name: &str, f: F)
+fn row1<B: Display + Drop, F: Fn(i32) -> B>(name: &str, f: F)
     requires { F.IsAlwaysCallable f }
 {
-    let _ = println!(rt; "{name}");
-    results(rt, &WORDS, &f);
-    results(rt, &EDGES, &f);
-    let _ = println!(rt; "");
+    let _ = writeln!(Output, "{name}");
+    results(&WORDS, &f);
+    results(&EDGES, &f);
+    let _ = writeln!(Output);
 }
 
 // A function's name, and a line for each first word, of each second one.
-fn table<B: Display + Drop, F: Fn(i32, i32) -> B>(rt: &impl Print, name: &str, f: F)
+fn table<B: Display + Drop, F: Fn(i32, i32) -> B>(name: &str, f: F)
     requires { F.IsAlwaysCallable f }
 {
-    let _ = println!(rt; "{name}");
+    let _ = writeln!(Output, "{name}");
     for a in WORDS {
-        results(rt, &WORDS, |b| f(a, b));
-        let _ = println!(rt; "");
+        results(&WORDS, |b| f(a, b));
+        let _ = writeln!(Output);
     }
 }
 
 // The functions of one word.
-fn of_one(rt: &impl Print) {
-    row1(rt, "low16", wrap::low16);
-    row1(rt, "high16", wrap::high16);
-    row1(rt, "low8", wrap::low8);
-    row1(rt, "neg32", wrap::neg32);
-    row1(rt, "rshift_round4", |a| shift::rshift_round(a, 4));
-    row1(rt, "rshift_round5", |a| shift::rshift_round(a, 5));
-    row1(rt, "rshift_round8", |a| shift::rshift_round(a, 8));
-    row1(rt, "rshift_round10", |a| shift::rshift_round(a, 10));
-    row1(rt, "rshift_round12", |a| shift::rshift_round(a, 12));
-    row1(rt, "rshift_round14", |a| shift::rshift_round(a, 14));
-    row1(rt, "sat16", range::sat16);
-    row1(rt, "abs32", range::abs32);
-    row1(rt, "rand", generator::rand);
-    row1(rt, "clamp32 to -31744 .. 30720", |a| {
+fn of_one() {
+    row1("low16", wrap::low16);
+    row1("high16", wrap::high16);
+    row1("low8", wrap::low8);
+    row1("neg32", wrap::neg32);
+    row1("rshift_round4", |a| shift::rshift_round(a, 4));
+    row1("rshift_round5", |a| shift::rshift_round(a, 5));
+    row1("rshift_round8", |a| shift::rshift_round(a, 8));
+    row1("rshift_round10", |a| shift::rshift_round(a, 10));
+    row1("rshift_round12", |a| shift::rshift_round(a, 12));
+    row1("rshift_round14", |a| shift::rshift_round(a, 14));
+    row1("sat16", range::sat16);
+    row1("abs32", range::abs32);
+    row1("rand", generator::rand);
+    row1("clamp32 to -31744 .. 30720", |a| {
         range::clamp32(a, -31744, 30720)
     });
 }
 
 // The functions of two words.
-fn of_two(rt: &impl Print) {
-    table(rt, "add32", wrap::add32);
-    table(rt, "sub32", wrap::sub32);
-    table(rt, "mul32", wrap::mul32);
-    table(rt, "mul16", |a, b| {
+fn of_two() {
+    table("add32", wrap::add32);
+    table("sub32", wrap::sub32);
+    table("mul32", wrap::mul32);
+    table("mul16", |a, b| {
         product::mul16(wrap::low16(a), wrap::low16(b))
     });
-    table(rt, "smulbb", product::smulbb);
-    table(rt, "smulwb", |a, b| product::smulwb(a, wrap::low16(b)));
-    table(rt, "smulwt", product::smulwt);
-    table(rt, "smulww", product::smulww);
-    table(rt, "smmul", product::smmul);
-    table(rt, "or32", shift::or32);
-    table(rt, "min32", |a: i32, b| a.min(b));
-    table(rt, "shl32", |a, b: i32| shift::shl32(a, b.cast_unsigned()));
-    table(rt, "shr32", |a, b: i32| shift::shr32(a, b.cast_unsigned()));
+    table("smulbb", product::smulbb);
+    table("smulwb", |a, b| product::smulwb(a, wrap::low16(b)));
+    table("smulwt", product::smulwt);
+    table("smulww", product::smulww);
+    table("smmul", product::smmul);
+    table("or32", shift::or32);
+    table("min32", |a: i32, b| a.min(b));
+    table("shl32", |a, b: i32| shift::shl32(a, b.cast_unsigned()));
+    table("shr32", |a, b: i32| shift::shr32(a, b.cast_unsigned()));
 }
 
 // A product added to a constant.
-fn of_two_and_a_sum(rt: &impl Print) {
-    table(rt, "smlabb to 2147483647", |a, b| {
+fn of_two_and_a_sum() {
+    table("smlabb to 2147483647", |a, b| {
         product::smlabb(i32::MAX, a, b)
     });
-    table(rt, "smlawb to -2147483648", |a, b| {
+    table("smlawb to -2147483648", |a, b| {
         product::smlawb(i32::MIN, a, wrap::low16(b))
     });
-    table(rt, "smlawt to 2147483647", |a, b| {
+    table("smlawt to 2147483647", |a, b| {
         product::smlawt(i32::MAX, a, b)
     });
-    table(rt, "smlaww to -2147483648", |a, b| {
+    table("smlaww to -2147483648", |a, b| {
         product::smlaww(i32::MIN, a, b)
     });
-    table(rt, "smlawb to -1", |a, b| {
+    table("smlawb to -1", |a, b| {
         product::smlawb(-1, a, wrap::low16(b))
     });
 }
 
 // The functions whose argument or result is of another type.
-fn of_other_types(rt: &impl Print) {
-    row(rt, "low32", &WIDE, wrap::low32);
-    row(rt, "bits32", &WORDS, |a: i32| a.cast_unsigned());
-    row(rt, "clz32", &EDGES, shift::clz32);
-    table(rt, "mul_u32", |a: i32, b: i32| {
+fn of_other_types() {
+    row("low32", &WIDE, wrap::low32);
+    row("bits32", &WORDS, |a: i32| a.cast_unsigned());
+    row("clz32", &EDGES, shift::clz32);
+    table("mul_u32", |a: i32, b: i32| {
         a.cast_unsigned().wrapping_mul(b.cast_unsigned())
     });
 }
 
-fn main(rt: HostRuntime) {
-    of_one(&rt);
-    of_two(&rt);
-    of_two_and_a_sum(&rt);
-    of_other_types(&rt);
+fn main() {
+    of_one();
+    of_two();
+    of_two_and_a_sum();
+    of_other_types();
 }

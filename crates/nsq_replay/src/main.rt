@@ -16,9 +16,9 @@ mod stream;
 use crate::state::Held;
 
 // All calls of the list, at most 256.
-fn main(rt: HostRuntime) {
+fn main() {
     let mut held = Held::fresh();
     for _ in 0..256 {
-        held = stream::next(&rt, held);
+        held = stream::next(held);
     }
 }

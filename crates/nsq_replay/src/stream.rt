@@ -19,7 +19,7 @@ fn frame_length(s: Settings) -> usize
 }
 
 // A call: its settings and rows, answered and printed. What is handed back is the state after it.
-fn call(rt: &impl Print, before: Held) -> Held {
+fn call(before: Held) -> Held {
     let mut words = [0; 320];
     input::row(&mut words, |z| z);
     let s = named::settings_of(&words);
@@ -45,7 +45,7 @@ fn call(rt: &impl Print, before: Held) -> Held {
         Ok(coded) => (0, coded.seed, coded.state),
         Err(refused) => (refused.why.number(), refused.seed, refused.state),
     };
-    print::answer(rt, s, number, seed, &state, from.rand_seed, out);
+    print::answer(s, number, seed, &state, from.rand_seed, out);
     Held {
         state,
         rand_seed: from.rand_seed,
@@ -53,13 +53,13 @@ fn call(rt: &impl Print, before: Held) -> Held {
 }
 
 // The next call of the list, if there is one, between its lines `call NAME` and `go`.
-pub fn next(rt: &impl Print, held: Held) -> Held {
+pub fn next(held: Held) -> Held {
     let first = input::byte();
     if first == 0 {
         return held;
     }
     input::echo(first);
-    let after = call(rt, held);
+    let after = call(held);
     input::number();
     after
 }

@@ -12,62 +12,52 @@ mod words;
 use digests::fnv::Fnv64;
 use harmonic::terms;
 use noise::{noise_terms, output};
+use prints::output::Output;
 use seeds::generator;
+use std::fmt::Write;
 
 // One function's line: its name, the first four of 2000 answers and the digest of all. Each answer is to a seed and the number of the turn.
 // A write that fails is passed over: the run goes on to its end.
-fn replay<F: Fn(i32, usize) -> i32>(rt: &impl Print, name: &str, answer: F)
+fn replay<F: Fn(i32, usize) -> i32>(name: &str, answer: F)
     requires { F.IsAlwaysCallable answer }
 {
-    let _ = print!(rt; "{name}");
+    let _ = write!(Output, "{name}");
     let mut seed = 1;
     let mut digest = Fnv64::new();
     for i in 0..2000 {
         seed = generator::rand(seed);
         let a = answer(seed, i);
         if i < 4 {
-            let _ = print!(rt; " {a}");
+            let _ = write!(Output, " {a}");
         }
         digest = digest.word(a);
     }
-    let _ = println!(rt; " {:016x}", digest.sum);
+    let _ = writeln!(Output, " {:016x}", digest.sum);
 }
 
 // The same of a function of up to three words.
-fn of_words<F: Fn(i32, i32, i32) -> i32>(rt: &impl Print, name: &str, answer: F)
+fn of_words<F: Fn(i32, i32, i32) -> i32>(name: &str, answer: F)
     requires { F.IsAlwaysCallable answer }
 {
-    replay(rt, name, |seed, _i| {
+    replay(name, |seed, _i| {
         let [x, y, z] = words::words::<3>(seed);
         answer(x, y, z)
     });
 }
 
-fn main(rt: HostRuntime) {
-    replay(&rt, "short_prediction", answers::short);
-    replay(&rt, "ltp_prediction", answers::long);
-    replay(&rt, "warped_filter, sum", answers::warped_sum);
-    replay(&rt, "warped_filter, words", answers::warped_words);
-    of_words(&rt, "n_AR", noise_terms::n_AR);
-    of_words(&rt, "n_LF", noise_terms::n_LF);
-    of_words(
-        &rt,
-        "harm_shape_packed",
-        |x, _y, _z| terms::harm_shape_packed(x),
-    );
-    replay(&rt, "n_LTP", answers::harmonic_term);
-    replay(&rt, "residual", |seed, _i| answers::residual(seed));
-    replay(&rt, "pulse_of", |seed, _i| {
+fn main() {
+    replay("short_prediction", answers::short);
+    replay("ltp_prediction", answers::long);
+    replay("warped_filter, sum", answers::warped_sum);
+    replay("warped_filter, words", answers::warped_words);
+    of_words("n_AR", noise_terms::n_AR);
+    of_words("n_LF", noise_terms::n_LF);
+    of_words("harm_shape_packed", |x, _y, _z| terms::harm_shape_packed(x));
+    replay("n_LTP", answers::harmonic_term);
+    replay("residual", |seed, _i| answers::residual(seed));
+    replay("pulse_of", |seed, _i| {
         i32::from(output::pulse_of(words::level(seed)))
     });
-    of_words(
-        &rt,
-        "xq_out8",
-        |x, y, _z| i32::from(output::xq_out(x, y, 8)),
-    );
-    of_words(
-        &rt,
-        "xq_out14",
-        |x, y, _z| i32::from(output::xq_out(x, y, 14)),
-    );
+    of_words("xq_out8", |x, y, _z| i32::from(output::xq_out(x, y, 8)));
+    of_words("xq_out14", |x, y, _z| i32::from(output::xq_out(x, y, 14)));
 }

@@ -8,7 +8,7 @@ use seeds::generator;
 use shifts::shift;
 
 // Rows and coefficients of each kind, at the two orders that the quantiser has, in turn.
-pub fn filter_rows(rt: &impl Print) {
+pub fn filter_rows() {
     let mut seed = 4;
     for i in 0..36 {
         let mut input = [0; 64];
@@ -16,18 +16,18 @@ pub fn filter_rows(rt: &impl Print) {
         seed = fill(&mut input, seed, i % 3);
         seed = fill(&mut b, seed, i / 3 % 3);
         let order = if i % 2 == 0 { 16 } else { 10 };
-        filter_row(rt, &input, &b, order);
+        filter_row(&input, &b, order);
     }
 }
 
 // One row, filtered into the middle of another, whose words before and after are to stay.
-fn filter_row(rt: &impl Print, input: &[i16; 64], b: &[i16; 16], order: usize)
+fn filter_row(input: &[i16; 64], b: &[i16; 16], order: usize)
     requires { order ≤ 16 }
 {
     let mut row = [77; 80];
     lpc_analysis_filter::silk_LPC_analysis_filter(&mut row[9..], input, b, order);
     for w in row {
-        numbers::print(rt, w);
+        numbers::print(w);
     }
 }
 

@@ -3,6 +3,8 @@ ghost use Rattle.std.specs.Prelude.{◌+◌, ◌<◌, ◌≤◌, length};
 
 use digests::fnv::Fnv32;
 use path::structs::{Path, Work};
+use prints::output::Output;
+use std::fmt::Write;
 
 // The digest with a row more.
 fn words<T: Copy + Into<i32>>(start: Fnv32, row: &[T]) -> Fnv32 {
@@ -15,11 +17,11 @@ fn path(start: Fnv32, p: &Path) -> Fnv32 {
 }
 
 // The paths' short words, and before them the ring's place. Here and below a write that fails is passed over: the run goes on to its end.
-pub fn print_paths(rt: &impl Print, ps: [Path; 4], at: usize)
+pub fn print_paths(ps: [Path; 4], at: usize)
     requires { at < 40 }
 {
     let h = ps.iter().fold(Fnv32::new().word(at as i32), path);
-    let _ = print!(rt; "{:08x} ", h.sum);
+    let _ = write!(Output, "{:08x} ", h.sum);
 }
 
 // The LPC words of a path that count after a subframe of l samples: its first 16, and the 16 behind the samples.
@@ -50,18 +52,20 @@ fn of_row<T: Copy + Into<i32>>(row: &[T]) -> u32 {
 }
 
 // All rows of a subframe of l samples, which end the line.
-pub fn print_rows(rt: &impl Print, l: usize, w: &Work, pulses: &[i8; 320])
+pub fn print_rows(l: usize, w: &Work, pulses: &[i8; 320])
     requires { l ≤ 80 }
 {
     let lpc = of_lpc(&w.states.lpcs, l).sum;
     let ring = of_rings(&w.states.rings).sum;
-    let _ = print!(rt; "{lpc:08x} {ring:08x} ");
-    let _ = print!(rt;
+    let _ = write!(Output, "{lpc:08x} {ring:08x} ");
+    let _ = write!(
+        Output,
         "{:08x} {:08x} ",
         of_row(&w.sLTP_Q15),
         of_row(&w.delayedGain_Q10)
     );
-    let _ = println!(rt;
+    let _ = writeln!(
+        Output,
         "{:08x} {:08x} {:08x}",
         of_row(&w.xq),
         of_row(&w.sLTP_shp_Q14),

@@ -16,10 +16,10 @@ mod words;
 
 use seeds::generator;
 
-fn main(rt: HostRuntime) {
+fn main() {
     let mut seed = 1;
     for c in 0..384 {
         seed = generator::rand(seed);
-        subframe::replay(&rt, c, seed);
+        subframe::replay(c, seed);
     }
 }

@@ -66,17 +66,17 @@ fn quantise(w: &mut Work, pulses: &mut [i8; 320], f: Fix, c: usize, seed: i32)
 }
 
 // Subframe c.
-pub fn replay(rt: &impl Print, c: usize, seed: i32)
+pub fn replay(c: usize, seed: i32)
     requires { c < 384 }
 {
     let inv = gains::inv_gain_Q31(settings::gain(c));
     let f = settings::fix(c, seed, gains::inv_gain_Q26(inv));
     if fits::fits(f) {
-        run(rt, c, seed, f);
+        run(c, seed, f);
     }
 }
 
-fn run(rt: &impl Print, c: usize, seed: i32, f: Fix)
+fn run(c: usize, seed: i32, f: Fix)
     requires { Fits f × (c < 384) }
 {
     let s = settings::shift(c);
@@ -99,6 +99,6 @@ fn run(rt: &impl Print, c: usize, seed: i32, f: Fix)
     let mut pulses = [0; 320];
     prepare(&mut w, f, c, seed);
     quantise(&mut w, &mut pulses, f, c, seed);
-    digest::print_paths(rt, w.states.owns, w.smpl_buf_idx);
-    digest::print_rows(rt, f.subfr_length, &w, &pulses);
+    digest::print_paths(w.states.owns, w.smpl_buf_idx);
+    digest::print_rows(f.subfr_length, &w, &pulses);
 }
