@@ -1,8 +1,10 @@
 -- The call that the code makes of a sheet is the call that the definition makes of its sections. Assumes nothing.
-use mathlib.Core.Path.{◌≡◌, refl}
+use mathlib.Core.Path.{◌≡◌, refl, ap, ◌∙◌}
 use Prim.Native.Nat.{ℕ}
+use native.Mathlib.Omega.{arith}
 use mathlib.Core.List.{List}
-use lib.ListN.{length}
+use lib.ListN.{length, take}
+use lib.Seq.{take_all}
 use lib.IntN.{ℤ}
 use Rattle.silk.specs.declared.structs.Settings.{Settings}
 use Rattle.silk.specs.declared.structs.NsqState.{NsqState}
@@ -41,6 +43,10 @@ pub lent-call : (read : Sheet) (s : Settings) (state : NsqState) (x pred ltp ar 
 unfolding defaulted sheet_call rows_of settings_of
 lent-call read s state x pred ltp ar harm tilt lf gains lags e1 e2 e3 e4 e5 e6 e7 e8 e9 e10 e11 =
     record { same-call = rw (e1, e2, e4, e5, e6, e7, e8, e9, e10, e11); same-samples = e3 }
+
+-- the first words of a row, as many as it has, are the row: in the edit `count_of_another_row` the code lends a row so
+pub whole-row : (n : ℕ) (s t row : List ℤ) → s ≡ take n t → t ≡ row → n ≡ length row → s ≡ row
+whole-row n s t row e f h = e ∙ ap (λ (l : List ℤ). take n l) f ∙ take_all n row (omega (arith, h))
 
 -- ---- .. and so are their lengths, and the answer
 pub lent-sizes : (read : Sheet) (x pred ltp ar harm tilt lf n : ℕ)
