@@ -1,14 +1,15 @@
 -- A sheet as the code holds it, cleaned: six of its rows are copied, cleaned and put into the new one. Assumes nothing.
-use Prim.Native.Nat.{ℕ}
-use mathlib.Core.Path.{◌≡◌, refl, ap, ◌∙◌}
+use Prim.Native.Nat.{ℕ, ◌-◌}
+use mathlib.Core.Path.{◌≡◌, refl, sym, ap, ◌∙◌}
 use mathlib.Core.List.{List, ◌++◌, append-nil}
-use lib.ListN.{length, take, drop}
-use lib.Seq.{take-length, drop-length}
-use lib.IntN.{ℤ}
+use lib.ListN.{length, replicate, take, drop}
+use lib.Seq.{take-length, take-append_seam, drop-length}
+use lib.IntN.{ℤ, pos}
 use Rattle.std.specs.List.{refill}
 use Rattle.silk.specs.State.{fresh_state}
 use Rattle.settings_row.specs.Named.{settings_of}
 use Rattle.steps.specs.Call.{Call, call_of}
+use Rattle.sheet_form.specs.Rows.{filled}
 use Rattle.sheet_form.specs.declared.sheet.Sheet.{Sheet}
 use Rattle.sheet_print.specs.Rows.{rows_of}
 use Rattle.sheet_page.specs.Calls.{sheet_call}
@@ -20,6 +21,17 @@ pub lent-back : (row lent left : List ℤ) → lent ≡ row → length left ≡ 
 lent-back row lent left e l =
     let k : length left ≡ length row = l ∙ ap length e in
     rw (← k) (ap (λ (t : List ℤ). take (length left) (left ++ t)) (ap (λ (n : ℕ). drop n row) k ∙ drop-length row) ∙ rw (append-nil left) (take-length left))
+
+-- the numbers of a row, cut out of its words
+pub cut : (row w : List ℤ) (n : ℕ) → w ≡ filled (pos 0) row → n ≡ length row → take n w ≡ row
+cut row w n e l = rw (e, l) (take-append_seam row (replicate (320 - length row) (pos 0)))
+
+-- .. and what came back in their place
+pub put-back : (row w left new : List ℤ) (n m : ℕ) → new ≡ take m (left ++ drop n w) → w ≡ filled (pos 0) row → n ≡ length row → m ≡ length row → length left ≡ length (take n w)
+    → new ≡ left
+put-back row w left new n m f e l k h =
+    let long : length left ≡ length row = h ∙ ap length (cut row w n e l) in
+    f ∙ ap (λ (j : ℕ). take j (left ++ drop n w)) (k ∙ sym long) ∙ take-append_seam left (drop n w)
 
 -- ---- the sheet
 -- the call of the copies is the sheet's

@@ -1,4 +1,5 @@
 pub mod NextWord
+pub mod Filled
 pub mod Numbers
 pub mod Fitting
 pub mod Whole

@@ -1,9 +1,10 @@
 -- Any two outcomes that a public function's contract allows are equal: each contract leaves one. Of a place in the text that is the bytes from
 -- it on: past the text's end, places differ that stand for the same. Assumes nothing.
 use mathlib.Core.Path.{◌≡◌, refl, sym, ap, ◌∙◌}
-use Rattle.std.specs.Prelude.{ℕ, Result, Ok, Err}
+use Rattle.std.specs.Prelude.{ℕ, List, Result, Ok, Err}
 use native.Mathlib.Omega.{arith}
 use Rattle.sheet_form.specs.Found.{items, section_found, rest_at}
+use Rattle.sheet_form.specs.Rows.{Words}
 use Rattle.sheet_form.specs.Sheets.{verdict_of}
 use Rattle.sheet_form.specs.declared.fault.Fault.{Fault}
 use Rattle.sheet_form.proofs.blank.zeros32.Reads as zeros32
@@ -18,6 +19,13 @@ use Rattle.sheet_form.proofs.section.triple_section.Reads as triple-section
 use Rattle.sheet_form.proofs.section.section32.Reads as section32
 use Rattle.sheet_form.proofs.section.section16.Reads as section16
 use Rattle.sheet_form.proofs.section.section8.Reads as section8
+use Rattle.sheet_form.proofs.rows.Words.new.Reads as new
+use Rattle.sheet_form.proofs.rows.Words.of.Reads as of
+use Rattle.sheet_form.proofs.rows.Words.len.Reads as len
+use Rattle.sheet_form.proofs.rows.Words.as_slice.Reads as as-slice
+use Rattle.sheet_form.proofs.rows.Words.words.Reads as words
+use Rattle.sheet_form.proofs.rows.Words.push.Reads as push
+use Rattle.sheet_form.proofs.rows.Words.truncate.Reads as truncate
 
 pub read-unique : (κs a r s e f : _) → read.Post κs a r e → read.Post κs a s f → r ≡ s
 read-unique κs a r s e f p q = p ∙ sym q
@@ -62,3 +70,29 @@ zeros16-unique κs a r s e p q = p ∙ sym q
 
 pub zeros8-unique : (κs a r s e : _) → zeros8.Post κs a r e → zeros8.Post κs a s e → r ≡ s
 zeros8-unique κs a r s e p q = p ∙ sym q
+
+-- a row is known by its numbers
+same-row : {T : Type 0} (v w : Words T) → v.items ≡ w.items → v ≡ w
+same-row {T} v w e = ap (λ (zs : List T). record { items = zs }) e
+
+-- ---- rows, of numbers of any width: each leaves one list of numbers
+pub new-unique : (T l c W w C m κs a r s e f : _) → new.Post T l c W w C m κs a r e → new.Post T l c W w C m κs a s f → r ≡ s
+new-unique T l c W w C m κs a r s e f p q = same-row r s (p ∙ sym q)
+
+pub of-unique : (T l c W w C m κs a r s e f : _) → of.Post T l c W w C m κs a r e → of.Post T l c W w C m κs a s f → r ≡ s
+of-unique T l c W w C m κs a r s e f p q = same-row r s (p ∙ sym q)
+
+pub len-unique : (T l c W w C m κs a r s e f : _) → len.Post T l c W w C m κs a r e → len.Post T l c W w C m κs a s f → r ≡ s
+len-unique T l c W w C m κs a r s e f p q = p.0 ∙ sym q.0
+
+pub as-slice-unique : (T l c W w C m κs a r s e f : _) → as-slice.Post T l c W w C m κs a r e → as-slice.Post T l c W w C m κs a s f → r.now ≡ s.now
+as-slice-unique T l c W w C m κs a r s e f p q = p.0 ∙ sym q.0
+
+pub words-unique : (T l c W w C m κs a r s e f : _) → words.Post T l c W w C m κs a r e → words.Post T l c W w C m κs a s f → r ≡ s
+words-unique T l c W w C m κs a r s e f p q = p ∙ sym q
+
+pub push-unique : (T l c W w C m κs a r s e f : _) → push.Post T l c W w C m κs a r e → push.Post T l c W w C m κs a s f → e.0.now ≡ f.0.now
+push-unique T l c W w C m κs a r s e f p q = same-row e.0.now f.0.now (p ∙ sym q)
+
+pub truncate-unique : (T l c W w C m κs a r s e f : _) → truncate.Post T l c W w C m κs a r e → truncate.Post T l c W w C m κs a s f → e.0.now ≡ f.0.now
+truncate-unique T l c W w C m κs a r s e f p q = same-row e.0.now f.0.now (p ∙ sym q)

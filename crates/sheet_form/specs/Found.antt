@@ -2,7 +2,7 @@
 -- Assumes nothing.
 use Rattle.std.specs.Prelude.{◌≡◌, ℕ, ◌-◌, false, List, ◌++◌, length, drop, ℤ, pos, Option, Some, None, Result, Ok, Err}
 use Rattle.std.specs.Int.Signed.{lt_z}
-use Rattle.arrayvec.specs.ArrayVec.{ArrayVec}
+use Rattle.sheet_form.specs.Rows.{Words}
 use Rattle.silk.specs.State.{zeros}
 use Rattle.sheet_words.specs.Number.{Range, Read, got, bad}
 use Rattle.sheet_form.specs.Sections.{Kind, section}
@@ -33,7 +33,7 @@ numbers_found numbers text (Some p) = got (numbers p.0) (drop p.1 text)
 numbers_found numbers text None = bad
 
 -- the numbers of a row
-abbrev pub items : ArrayVec ℤ → List ℤ
+abbrev pub items : Words ℤ → List ℤ
 items row = row.items
 
 -- what was read as section k: its numbers and the bytes after it, or fault k

@@ -1,3 +1,4 @@
 pub mod Sections
+pub mod Rows
 pub mod Found
 pub mod Sheets

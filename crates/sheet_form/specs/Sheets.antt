@@ -1,7 +1,7 @@
 -- A sheet as the code holds it: the settings by name, and nine rows.
 -- Assumes nothing.
 use Rattle.std.specs.Prelude.{ℕ, List, [], length, get_or, ℤ, pos, nat_abs, ltb, eqb, Result, Ok, Err}
-use Rattle.arrayvec.specs.ArrayVec.{ArrayVec}
+use Rattle.sheet_form.specs.Rows.{Words}
 use Rattle.fixed.specs.Iter.{either}
 use Rattle.silk.specs.declared.structs.Settings.{Settings}
 use Rattle.settings_row.specs.Named.{settings_of}
@@ -10,7 +10,7 @@ use Rattle.sheet_form.specs.declared.fault.Fault.{Fault}
 use Rattle.sheet_form.specs.declared.sheet.Sheet.{Sheet}
 
 -- the row of these numbers
-abbrev pub row : List ℤ → ArrayVec ℤ
+abbrev pub row : List ℤ → Words ℤ
 row zs = record { items = zs }
 
 -- the sections of a sheet by name, in their order; a section that is not there is empty

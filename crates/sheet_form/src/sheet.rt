@@ -19,7 +19,7 @@ pub const MOST_BYTES: usize = 65536;
 pub const DEFAULT_PATHS: i32 = 2;
 
 // A sheet that could be read: its settings and its nine rows.
-#[derive(Clone, Drop)]
+#[derive(Clone, Copy)]
 pub struct Sheet {
     pub settings: Settings,
     pub samples: Row16,
