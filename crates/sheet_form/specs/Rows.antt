@@ -1,5 +1,5 @@
 -- What a contract sees of a row: the list of its numbers. Assumes nothing.
-use Rattle.std.specs.Prelude.{ℕ, ◌-◌, List, ◌++◌, length, replicate, refl}
+use Rattle.std.specs.Prelude.{◌-◌, List, ◌++◌, length, replicate, refl}
 use Rattle.std.specs.Coded.{Coded, code_by, coded_list}
 
 -- the numbers, in order
