@@ -36,4 +36,4 @@ returns-in-Ok c =
 pub returns-in-Err : goal.returns-in-Err
 returns-in-Err c =
     let s = c.args.input.now in
-    added_as (refused-text s _ c.in-Err.ensures _ c.number-number.ensures (λ z. omega (arith, number_from-1 c.in-Err.refusal))) c.number_line.ensures
+    added_as (refused-text s _ c.in-Err.ensures _ (search rules) (λ z. omega (arith, number_from-1 c.in-Err.refusal))) c.number_line.ensures
