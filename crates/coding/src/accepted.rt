@@ -38,20 +38,20 @@ fn last_of(row: &[i32], n: usize) -> i32
 
 // All subframes and the end, from any frame in work on; `words` are the LPC words of the state before. The report is of what the paths chose from there on,
 // so that it asks for a frame in which they have chosen nothing.
-fn rest(mut t: Frame, pulses: &mut [i8], r: Inputs<'_>, words: [i32; 96], g: Given) -> Coded
+fn rest(t: &mut Frame, pulses: &mut [i8], r: Inputs<'_>, words: [i32; 96], g: Given) -> Coded
     requires { ((Sound g r.lags.now × Stocked_in g r) × (g.nb_subfr * g.subfr_length ≤ length pulses.old))
-        × ((pos 1 ≤ℤ t.prev) × (t.work.smpl_buf_idx < 40)) }
+        × ((pos 1 ≤ℤ t.old.prev) × (t.old.work.smpl_buf_idx < 40)) }
     ensures words { done_of result.seed result.state pulses.new
         ≡ ended_by g (word r.entry.gains.now (g.nb_subfr - 1)) (word r.entry.lags.now (g.nb_subfr - 1)) words
-        (run_in full_copy g r.entry g.nb_subfr (framed_at t pulses.old)) }
-    ensures report { t.work.chosen ≡ no_rows → result.report
+        (run_in full_copy g r.entry g.nb_subfr (framed_at t.old pulses.old)) }
+    ensures report { t.old.work.chosen ≡ no_rows → result.report
         ≡ pos (report_from full_copy g r.entry.x.now r.entry.pred.now r.entry.long.now r.entry.ar.now r.entry.tilt.now r.entry.harm.now r.entry.lf.now
-        r.entry.gains.now r.entry.lags.now (framed_at t pulses.old) pulses.new) }
+        r.entry.gains.now r.entry.lags.now (framed_at t.old pulses.old) pulses.new) }
 {
-    run::run(&mut t, pulses, r, g);
+    run::run(t, pulses, r, g);
     let last = last_of(r.gains, g.nb_subfr);
     let lag = last_of(r.lags, g.nb_subfr);
-    end::ended(t, pulses, words, last, lag, g)
+    end::ended(*t, pulses, words, last, lag, g)
 }
 
 // The frame before its first subframe: the paths begun, the histories as the state has them, the other rows zero.
@@ -94,6 +94,6 @@ pub fn coded(s: Settings, state: NsqState, r: Inputs<'_>, pulses: &mut [i8]) -> 
     ensures report { result.report ≡ pos (frame_report full_copy (call_in s state r.entry) r.entry.x.now pulses.old) }
 {
     let g = call::given_of(s, state.lagPrev, r.lags);
-    let t = opened(state, g);
-    rest(t, pulses, r, state.sLPC_Q14, g)
+    let mut t = opened(state, g);
+    rest(&mut t, pulses, r, state.sLPC_Q14, g)
 }
