@@ -25,10 +25,11 @@
 #define NSQ_VERSION "0.3.0"
 
 /* A call needs at most this many bytes of stack, 72 KB: measured, not proved. On a painted stack (tests/compare/stack.c; calls of every L,
- * voiced and not, each with 1 to 4 paths) nsq_del_dec_report used 66,712 bytes on x86-64, AARCH64 on aarch64 and, before a refusal handed its
- * state back, 67,096 on riscv64 (these two under qemu-user); nsq_del_dec 112 to 416 less. nsq_wav_find and nsq_wav_samples used 8 to 72 bytes, on the longest files. A program that
- * is linked dynamically looks up memcpy and its like in the first call that needs them: that took up to 3,152 bytes more. An archive that the
- * kit before made of the same functions used 45,376 bytes at most, and the number here was 49152. */
+ * voiced and not, each with 1 to 4 paths) nsq_del_dec_report used 66,712 bytes on x86-64, 69,984 on aarch64 and, before a refusal handed its
+ * state back, 67,096 on riscv64 (these two under qemu-user; on riscv64 not measured again since); nsq_del_dec 112 to 416 less. nsq_wav_find and
+ * nsq_wav_samples used 8 to 72 bytes, on the longest files. A program that is linked dynamically looks up memcpy and its like in the first call
+ * that needs them: that took up to 3,152 bytes more. An archive that the kit before made of the same functions used 45,376 bytes at most, and
+ * the number here was 49152. */
 #define NSQ_STACK 73728
 
 #ifdef __cplusplus
