@@ -1,11 +1,10 @@
 -- A sheet as the code holds it, cleaned: six of its rows are copied, cleaned and put into the new one. Assumes nothing.
 use Prim.Native.Nat.{ℕ, ◌-◌}
 use mathlib.Core.Path.{◌≡◌, refl, sym, ap, ◌∙◌}
-use mathlib.Core.List.{List, ◌++◌, append-nil}
+use mathlib.Core.List.{List, ◌++◌}
 use lib.ListN.{length, replicate, take, drop}
-use lib.Seq.{take-length, take-append_seam, drop-length}
+use lib.Seq.{take-append_seam}
 use lib.IntN.{ℤ, pos}
-use Rattle.std.specs.List.{refill}
 use Rattle.silk.specs.State.{fresh_state}
 use Rattle.settings_row.specs.Named.{settings_of}
 use Rattle.steps.specs.Call.{Call, call_of}
@@ -15,12 +14,6 @@ use Rattle.sheet_print.specs.Rows.{rows_of}
 use Rattle.sheet_page.specs.Calls.{sheet_call}
 use Rattle.cleaning.specs.Cleaned.{cleaned}
 use Rattle.clean_page.specs.Sheets.{sections_of, cleaned_rows}
-
--- a row whose numbers were lent whole holds what came back
-pub lent-back : (row lent left : List ℤ) → lent ≡ row → length left ≡ length lent → refill (length row) row left ≡ left
-lent-back row lent left e l =
-    let k : length left ≡ length row = l ∙ ap length e in
-    rw (← k) (ap (λ (t : List ℤ). take (length left) (left ++ t)) (ap (λ (n : ℕ). drop n row) k ∙ drop-length row) ∙ rw (append-nil left) (take-length left))
 
 -- the numbers of a row, cut out of its words
 pub cut : (row w : List ℤ) (n : ℕ) → w ≡ filled (pos 0) row → n ≡ length row → take n w ≡ row
