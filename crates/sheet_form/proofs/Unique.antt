@@ -19,6 +19,7 @@ use Rattle.sheet_form.proofs.section.triple_section.Reads as triple-section
 use Rattle.sheet_form.proofs.section.section32.Reads as section32
 use Rattle.sheet_form.proofs.section.section16.Reads as section16
 use Rattle.sheet_form.proofs.section.section8.Reads as section8
+use Rattle.sheet_form.proofs.rows.WordsClone.clone.Reads as clone
 use Rattle.sheet_form.proofs.rows.Words.new.Reads as new
 use Rattle.sheet_form.proofs.rows.Words.of.Reads as of
 use Rattle.sheet_form.proofs.rows.Words.len.Reads as len
@@ -96,3 +97,9 @@ push-unique T l c W w C m κs a r s e f p q = same-row e.0.now f.0.now (p ∙ sy
 
 pub truncate-unique : (T l c W w C m κs a r s e f : _) → truncate.Post T l c W w C m κs a r e → truncate.Post T l c W w C m κs a s f → e.0.now ≡ f.0.now
 truncate-unique T l c W w C m κs a r s e f p q = same-row e.0.now f.0.now (p ∙ sym q)
+
+-- a clone is the row, and there always is one
+pub clone-unique : (T l c W w C m κs a r s e f : _) → clone.Post T l c W w C m κs a r e → clone.Post T l c W w C m κs a s f → r ≡ s
+clone-unique T l c W w C m κs a (Ok v) (Ok u) e f p q = ap Ok (p ∙ sym q)
+clone-unique T l c W w C m κs a (Ok v) (Err y) e f p q = absurd (q tt)
+clone-unique T l c W w C m κs a (Err x) s e f p q = absurd (p tt)

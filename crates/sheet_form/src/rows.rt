@@ -1,5 +1,5 @@
 // The rows of a sheet: at most 320 numbers of one width, which lie in the row itself.
-ghost use Rattle.std.specs.Prelude.{◌≡◌, ◌<◌, ◌≤◌, List, [], ◌∷◌, ◌++◌, length, take, ℤ, pos};
+ghost use Rattle.std.specs.Prelude.{◌≡◌, ◌<◌, ◌≤◌, List, [], ◌∷◌, ◌++◌, length, take, ℤ, pos, ⊤};
 ghost use Rattle.sheet_words.specs.Number.{Range};
 ghost use Rattle.sheet_form.specs.Sections.{i8, i16, i32};
 ghost use Rattle.sheet_form.specs.Found.{range, Within};
@@ -76,7 +76,12 @@ impl<T: Word> Model for Words<T> {
     ghost inverse_ok = { λ r h i. record { places = record { words = sym h.2 i }; count = h.1 i } };
 }
 
+// The same row, and there is always memory for it.
 impl<T: Word> Clone for Words<T> {
+    ghost is_clone = { λ row copy. copy ≡ row };
+
+    ghost is_infallible = { λ _. ⊤ };
+
     fn clone(&self) -> Result<Self, AllocError> {
         Ok(*self)
     }
